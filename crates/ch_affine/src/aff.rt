@@ -1,8 +1,10 @@
-ghost use Rattle.std.specs.Prelude.{◌≡◌, ◌≤◌, ◌^◌, ◌+ℤ◌, ◌*ℤ◌, ◌+◌, ◌<◌, unsigned_abs, length};
+ghost use Rattle.std.specs.Prelude.{◌≡◌, ◌≤◌, ◌^◌, ◌+ℤ◌, length, IfOk};
 ghost use Rattle.std.specs.List.{All};
 ghost use Rattle.ch_affine.specs.Affine.{IsAtMost, value, dot};
 
 use crate::list::List;
+use crate::wide::{plus, times};
+use std::alloc::{AllocError, Global};
 use std::marker::Model;
 
 /// An affine form: a constant plus, for each variable, a coefficient times the variable.
@@ -35,6 +37,17 @@ impl Aff {
     {
         weighed(self.constant, self.coefs.as_slice(), point)
     }
+
+    /// A form of its own with the same numbers.
+    pub fn copied(&self, alloc: Global) -> Result<Aff, AllocError>
+        ensures { IfOk result (λ form. form ≡ self.now) }
+    {
+        let coefs = List::from_slice(alloc, self.coefs.as_slice())?;
+        Ok(Aff {
+            coefs,
+            constant: self.constant,
+        })
+    }
 }
 
 fn weighed(constant: i64, coefs: &[i64], point: &[i64]) -> i128
@@ -50,21 +63,4 @@ fn weighed(constant: i64, coefs: &[i64], point: &[i64]) -> i128
         sum = plus(sum, times(coefs[k], point[k]));
     }
     sum
-}
-
-fn times(coef: i64, x: i64) -> i128
-    requires coef_small { IsAtMost (2 ^ 60) coef }
-    requires x_small { IsAtMost (2 ^ 54) x }
-    ensures value { result ≡ coef *ℤ x }
-    ensures bound { IsAtMost (2 ^ 114) result }
-{
-    coef as i128 * x as i128
-}
-
-fn plus(sum: i128, more: i128) -> i128
-    requires fits { unsigned_abs sum + unsigned_abs more < 2 ^ 127 }
-    ensures value { result ≡ sum +ℤ more }
-    ensures bound { unsigned_abs result ≤ unsigned_abs sum + unsigned_abs more }
-{
-    sum + more
 }

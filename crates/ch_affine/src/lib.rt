@@ -4,10 +4,15 @@
 
 mod aff;
 mod boxed;
+mod combination;
 mod list;
+mod system;
 mod text;
+pub mod wide;
 
 pub use aff::Aff;
 pub use boxed::Boxed;
+pub use combination::{AffError, combine};
 pub use list::List;
+pub use system::{Range, System, all_hold};
 pub use text::Text;
