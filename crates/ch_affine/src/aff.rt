@@ -1,6 +1,6 @@
-ghost use Rattle.std.specs.Prelude.{◌≡◌, ◌≤◌, ◌^◌, ◌+ℤ◌, length, IfOk};
+ghost use Rattle.std.specs.Prelude.{◌≡◌, ◌≤◌, ◌^◌, ◌+ℤ◌, length, IfOk, IfSome, IsSome, IsTrue, ◌↔◌};
 ghost use Rattle.std.specs.List.{All};
-ghost use Rattle.ch_affine.specs.Affine.{IsAtMost, value, dot};
+ghost use Rattle.ch_affine.specs.Affine.{IsAtMost, IsSmall, form, value, dot};
 
 use crate::list::List;
 use crate::wide::{plus, times};
@@ -29,6 +29,18 @@ impl Model for Aff {
 }
 
 impl Aff {
+    /// The form of these parts, or None where there are too many or a number is too large.
+    pub fn new(coefs: List<i64>, constant: i64) -> Option<Aff>
+        ensures fits { IsSome result ↔ IsSmall (form coefs constant) }
+        ensures value { IfSome result (λ a. a ≡ form coefs constant) }
+    {
+        let fits = coefs.len() <= 4096 && all_small(coefs.as_slice()) && is_small(constant);
+        if !fits {
+            return None;
+        }
+        Some(Aff { coefs, constant })
+    }
+
     /// The exact value at a point, which has one number for each variable.
     pub fn value(&self, point: &[i64]) -> i128
         requires same { length point.now ≡ length self.now.coefs }
@@ -63,4 +75,16 @@ fn weighed(constant: i64, coefs: &[i64], point: &[i64]) -> i128
         sum = plus(sum, times(coefs[k], point[k]));
     }
     sum
+}
+
+fn all_small(numbers: &[i64]) -> bool
+    ensures { IsTrue result ↔ All (IsAtMost (2 ^ 60)) numbers.now }
+{
+    numbers.iter().all(|number| is_small(*number))
+}
+
+fn is_small(number: i64) -> bool
+    ensures { IsTrue result ↔ IsAtMost (2 ^ 60) number }
+{
+    number.unsigned_abs() <= 1 << 60
 }

@@ -27,14 +27,7 @@ impl From<AllocError> for AffError {
 
 /// The form `a * x + b * y`, of as many variables. `Wide` has the first number of it, the coefficients before the
 /// constant, whose magnitude is above `limit`. Memory is taken only where there is none.
-pub fn combine(
-    alloc: Global,
-    a: i64,
-    x: &Aff,
-    b: i64,
-    y: &Aff,
-    limit: i64,
-) -> Result<Aff, AffError>
+pub fn combine(alloc: Global, a: i64, x: &Aff, b: i64, y: &Aff, limit: i64) -> Result<Aff, AffError>
     requires same { length x.now.coefs ≡ length y.now.coefs }
     requires limit_low { pos 0 ≤ℤ limit }
     requires limit_high { limit ≤ℤ pos (2 ^ 60) }
@@ -77,14 +70,7 @@ fn passes(value: i128, limit: i64) -> bool
     value.unsigned_abs() > limit as u128
 }
 
-fn first_wide_of(
-    a: i64,
-    xs: &[i64],
-    b: i64,
-    ys: &[i64],
-    constant: i128,
-    limit: i64,
-) -> Option<i128>
+fn first_wide_of(a: i64, xs: &[i64], b: i64, ys: &[i64], constant: i128, limit: i64) -> Option<i128>
     requires same { length xs.now ≡ length ys.now }
     requires xs_small { All (IsAtMost (2 ^ 60)) xs.now }
     requires ys_small { All (IsAtMost (2 ^ 60)) ys.now }

@@ -7,6 +7,8 @@ mod boxed;
 mod combination;
 mod list;
 mod system;
+#[cfg(test)]
+mod tests;
 mod text;
 pub mod wide;
 
