@@ -1,0 +1,9 @@
+pub mod Capped
+pub mod Corners
+pub mod Fits
+pub mod Places
+pub mod Rests
+pub mod Runs
+pub mod Signed
+pub mod Turns
+pub mod Walks
