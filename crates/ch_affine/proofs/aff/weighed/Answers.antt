@@ -1,0 +1,22 @@
+use Rattle.std.proofs.Common.{◌≡◌, ◌*ℤ◌, ◌≤◌, ◌^◌, pos, get_or, unsigned_abs, rules, arith, SFits, w64}
+use Rattle.std.specs.Int.{w128}
+use Rattle.std.proofs.lemmas.Int.{ints, to_z-of_z}
+use Rattle.ch_affine.proofs.Dots.{dot_more}
+use Rattle.ch_affine.proofs.aff.weighed.Goals as goal
+
+pub loop-k-preserved : goal.loop-k-preserved
+loop-k-preserved c = record {
+  rest =
+      let r : SFits w128 c.plus-sum.result = search rules in
+      let t : SFits w128 c.times.result = search rules in
+      let small_c : unsigned_abs (get_or c.args.coefs.now c.loop-k.k (pos 0)) ≤ 2 ^ 60 = c.requires.coefs_small _ _ c.loop-k-test.true in
+      let small_x : unsigned_abs (get_or c.args.point.now c.loop-k.k (pos 0)) ≤ 2 ^ 54 = c.requires.point_small _ _ (omega arith) in
+      let a : SFits w64 (get_or c.args.coefs.now c.loop-k.k (pos 0)) = omega (arith, ints) in
+      let b : SFits w64 (get_or c.args.point.now c.loop-k.k (pos 0)) = omega (arith, ints) in
+      let k : SFits w64 c.args.constant = c.ranges.constant in
+      let times : c.times.result ≡ get_or c.args.coefs.now c.loop-k.k (pos 0) *ℤ get_or c.args.point.now c.loop-k.k (pos 0) =
+      simp to_z-of_z at c.times.ensures.value in
+      let plus = simp to_z-of_z at c.plus-sum.ensures.value in
+      simp to_z-of_z (dot_more _ _ c.loop-k.k _ _ _ _ c.loop-k-test.true c.requires.same times plus (simp to_z-of_z at c.loop-k.invariant.rest));
+  bound = grind (arith, to_z-of_z);
+}

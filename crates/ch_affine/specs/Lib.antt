@@ -1,0 +1,4 @@
+pub mod Affine
+pub mod Form
+pub mod Lends
+pub mod formers
