@@ -1,8 +1,7 @@
 -- An input that was read in pieces.
-use Rattle.std.proofs.Common.{◌≡◌, ℕ, ◌+◌, ◌≤◌, List, [], ◌++◌, length, take, drop, IfSome, None, Some, ◌⊎◌, inl, inr, refl, sym, ap, ◌∙◌, arith, length-append, append-nil}
-use Rattle.std.proofs.lemmas.List.{take_at, drop_at, take_all, drop_all}
+use Rattle.std.proofs.Common.{ℕ, ◌+◌, ◌≤◌, List, ◌++◌, length, arith, length-append}
 use Rattle.std.specs.declared.option.Option.{Option}
-use Rattle.std.specs.Io.KnownBytes.{Consumes, IsAtEnd}
+use Rattle.std.specs.Io.KnownBytes.{Consumes}
 use Rattle.std.proofs.KnownBytes.{Consumes-trans}
 use Rattle.ch_io.specs.Streams.{LosesFront}
 

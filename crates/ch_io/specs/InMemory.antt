@@ -1,8 +1,9 @@
 -- A source and a sink in memory, as their callers see them.
-use Rattle.std.specs.Prelude.{ℕ, ◌-◌, List, [], ◌++◌, length, take, drop, min, Result, Ok, Err}
-use Rattle.ch_io.specs.Faults.{raised, faults_after}
+use Rattle.std.specs.Prelude.{ℕ, ◌-◌, List, ◌++◌, length, take, drop, min, Result, Ok, Err}
+use Rattle.ch_io.specs.Faults.{raised}
 
--- the bytes to come, the most bytes of one read, the numbers of the reads that fail, the number of the next read, how many reads failed
+-- left: the bytes to come; step: the most bytes of one read; fail: the numbers of the reads that fail; next: the number of the next read, from 1;
+-- faults: how many reads have failed
 pub record SourceState : Type 0 where
   pub left : List ℕ
   pub step : ℕ
@@ -19,8 +20,8 @@ abbrev pub after_read : {E : Type 0} → SourceState → Result ℕ E → Source
 after_read s (Ok n) = record s { left = drop n s.left; next = raised s.next }
 after_read s (Err _) = record s { next = raised s.next; faults = raised s.faults }
 
--- the bytes taken, the most bytes that it can take in all, the most bytes of one write, the numbers of the writes that fail, the number of the next
--- write, how many writes failed
+-- taken: the bytes taken; room: the most bytes that it takes in all; step: the most bytes of one write; fail: the numbers of the writes that fail;
+-- next: the number of the next write, from 1; faults: how many writes have failed
 pub record SinkState : Type 0 where
   pub taken : List ℕ
   pub room : ℕ

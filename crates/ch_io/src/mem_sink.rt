@@ -26,16 +26,14 @@ impl Model for MemSink {
 
     ghost Value = { SinkState };
 
-    ghost view = {
-        λ s. record {
-            taken = s.taken.items;
-            room = s.room;
-            step = s.step;
-            fail = s.fail.items;
-            next = s.next;
-            faults = s.faults
-        }
-    };
+    ghost view = { λ s. record {
+      taken = s.taken.items;
+      room = s.room;
+      step = s.step;
+      fail = s.fail.items;
+      next = s.next;
+      faults = s.faults;
+    } };
 
     ghost invariant = { λ s. (vec_len s.taken ≤ s.room) × (s.room ≤ vec_capacity s.taken) × (0 < s.step) };
 }

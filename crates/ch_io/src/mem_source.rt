@@ -23,9 +23,7 @@ impl Model for MemSource {
 
     ghost Value = { SourceState };
 
-    ghost view = {
-        λ s. record { left = drop s.at s.bytes.items; step = s.step; fail = s.fail.items; next = s.next; faults = s.faults }
-    };
+    ghost view = { λ s. record { left = drop s.at s.bytes.items; step = s.step; fail = s.fail.items; next = s.next; faults = s.faults } };
 
     ghost invariant = { λ s. (s.at ≤ vec_len s.bytes) × (0 < s.step) };
 }

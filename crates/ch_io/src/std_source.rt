@@ -4,17 +4,26 @@ ghost use Rattle.ch_io.specs.Faults.{faults_after};
 use crate::failed::Failed;
 use crate::source::Source;
 use std::io::Read;
+use std::marker::Model;
 
-/// A reader of std, which counts its faults and tells no content.
+/// A reader of std, which tells no content. Contracts see the count of its faults.
 #[derive(Debug, Drop)]
 pub struct StdSource<R> {
     reader: R,
     faults: u64,
 }
 
+impl<R> Model for StdSource<R> {
+    ghost use Rattle.std.specs.Prelude.{ℕ};
+
+    ghost Value = { ℕ };
+
+    ghost view = { λ s. s.faults };
+}
+
 impl<R: Read> StdSource<R> {
     pub fn new(reader: R) -> StdSource<R>
-        ensures { result.faults ≡ 0 }
+        ensures { result ≡ 0 }
     {
         StdSource { reader, faults: 0 }
     }
@@ -25,12 +34,12 @@ impl<R: Read> Source for StdSource<R> {
 
     ghost left = { λ _. None };
 
-    ghost faults = { λ s. s.faults };
+    ghost faults = { λ s. s };
 
     fn read(&mut self, buf: &mut [u8]) -> Result<usize, Failed>
         ensures bound { IfOk result (λ n. n ≤ length buf.old) }
-        ensures counted { self.new.faults ≡ faults_after self.old.faults result }
-        ensures later { self.old.faults ≤ self.new.faults }
+        ensures counted { self.new ≡ faults_after self.old result }
+        ensures later { self.old ≤ self.new }
     {
         match self.reader.read(buf) {
             Ok(count) => Ok(count),
