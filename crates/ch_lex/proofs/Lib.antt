@@ -1,0 +1,9 @@
+pub mod Numbers
+pub mod Pieces
+pub mod Runs
+pub mod SignTexts
+pub mod Meanings
+pub mod Gaps
+pub mod Cuts
+pub mod ByLength
+pub mod KeywordLaws
