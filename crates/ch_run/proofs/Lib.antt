@@ -1,0 +1,4 @@
+pub mod Found
+pub mod Fresh
+pub mod Nested
+pub mod Repeats

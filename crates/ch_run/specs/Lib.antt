@@ -1,0 +1,6 @@
+pub mod Entries
+pub mod Gives
+pub mod Heads
+pub mod Items
+pub mod Parts
+pub mod Read
