@@ -1,4 +1,4 @@
+pub mod Ascii
 pub mod Found
-pub mod Fresh
 pub mod Nested
 pub mod Repeats

@@ -5,15 +5,14 @@ use Rattle.ch_affine.specs.Form.{Form}
 use Rattle.ch_lex.specs.declared.keyword.Keyword.TheVariants as words
 use Rattle.ch_lex.specs.declared.token.Sign.TheVariants as signs
 use Rattle.ch_lex.specs.declared.token.Token.{Token}
-use Rattle.ch_nest.specs.declared.nest.Fill.{Fill}
 use Rattle.ch_nest.specs.declared.nest.Item.{Item}
 use Rattle.ch_nest.specs.declared.nest.Item.TheVariants.{Loop, Assign}
 use Rattle.ch_nest.specs.Limits.{deepest, most_statements}
-use Rattle.ch_nest.specs.LoopNest.{LoopNest}
 use Rattle.ch_run.specs.declared.look.Look.{Look}
 use Rattle.ch_run.specs.declared.look.Look.TheVariants as looks
 use Rattle.ch_run.specs.declared.names.Named.{Named}
 use Rattle.ch_run.specs.declared.names.Named.TheVariants.{Array, Iterator}
+use Rattle.ch_run.specs.declared.program.Program.{Program}
 use Rattle.ch_run.specs.Heads.{arrays_at, lets_at}
 use Rattle.ch_run.specs.Parts.{access_at, form_at, right_at}
 use Rattle.ch_run.specs.Read.{◌>>=◌, Read, where_true, choose, begins, fresh_at, find_name, keyword_at, name_at, Names, next_is, repeated, seen, sign_at}
@@ -114,12 +113,7 @@ item_at bytes (suc deeper) names levels found ts = choose (begins bytes words.Fo
     (λ _. loop_at bytes (item_at bytes deeper) names levels found (drop 1 ts))
     (λ _. assign_at bytes names levels found ts)
 
--- a program: its name, its nest and how its arrays start
-pub record Program : Type 0 where
-  pub name : List ℕ
-  pub nest : LoopNest
-  pub fills : List Fill
-
+-- a program's text, up to its closing brace
 unfoldable pub program_at : List ℕ → List Token → Read Program
 program_at bytes ts = do
   word ← keyword_at bytes words.Program ts

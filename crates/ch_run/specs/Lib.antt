@@ -1,3 +1,4 @@
+pub mod Accepted
 pub mod Entries
 pub mod Gives
 pub mod Heads

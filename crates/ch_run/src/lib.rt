@@ -6,4 +6,5 @@ mod items;
 mod look;
 mod names;
 mod parts;
+mod program;
 mod unread;

@@ -1,4 +1,6 @@
-ghost use Rattle.std.specs.Prelude.{◌≡◌, drop};
+ghost use Rattle.std.specs.Prelude.{◌≡◌, drop, IfOk, IsTrue};
+ghost use Rattle.std.specs.Char.{is_ascii};
+ghost use Rattle.std.specs.List.{list_all};
 ghost use Rattle.std.specs.Str.{bytes_eq};
 ghost use Rattle.ch_lex.specs.Keywords.{keyword_of, keyword_text};
 ghost use Rattle.ch_run.specs.Gives.{Gives};
@@ -166,12 +168,13 @@ pub(crate) fn keyword<'a>(
 }
 
 /// A name, and the tokens after it.
-#[tactic(auto, unfolding(crate::specs::Read::name_at))]
+#[tactic(auto, unfolding(crate::specs::Read::name_at), using(crate::proofs::Ascii::text_ascii))]
 pub(crate) fn name<'a, 'b>(
     bytes: &'b [u8],
     tokens: &'a [Token],
 ) -> Result<(&'b [u8], &'a [Token]), Unread>
-    ensures { Gives (λ r. (r.0.now, r.1.now)) result (name_at bytes.now tokens.now) }
+    ensures exact { Gives (λ r. (r.0.now, r.1.now)) result (name_at bytes.now tokens.now) }
+    ensures ascii { IsTrue (list_all is_ascii bytes.now) → IfOk result (λ r. IsTrue (list_all is_ascii r.0.now)) }
 {
     match seen(bytes, tokens) {
         Look::Name => Ok((text_at(bytes, tokens), after(tokens))),

@@ -78,7 +78,7 @@ fn is_new(named: Option<Named>) -> bool
 }
 
 /// A name that nothing in force has.
-#[tactic(auto, unfolding(crate::specs::Read::fresh_at), using(crate::proofs::Fresh::name_ascii))]
+#[tactic(auto, unfolding(crate::specs::Read::fresh_at))]
 pub(crate) fn fresh<'a, 'b>(
     bytes: &'b [u8],
     names: &Names,
