@@ -34,7 +34,7 @@ struct Parts {
 
 /// A program's text, up to its closing brace.
 #[tactic(auto, unfolding(crate::specs::Items::program_at))]
-fn parts<'a>(
+fn spelled<'a>(
     alloc: Global,
     bytes: &[u8],
     tokens: &'a [Token],
@@ -53,14 +53,85 @@ fn parts<'a>(
         fills,
     } = declared;
     let mut names = names;
-    let found = List::new(alloc);
-    let (items, _label, rest) = items(alloc, bytes, &mut names, 0, 6, found, 0, rest)?;
+    let none = List::new(alloc);
+    let (items, _label, rest) = items(alloc, bytes, &mut names, 0, 6, none, 0, rest)?;
     let name = Text::of(alloc, text)?;
-    let parts = Parts {
+    let found = Parts {
         name,
         arrays,
         items,
         fills,
     };
-    Ok((parts, rest))
+    Ok((found, rest))
+}
+
+fn are_ascii(bytes: &[u8]) -> bool
+    ensures { result ≡ list_all is_ascii bytes.now }
+{
+    bytes.iter().all(|b| b.is_ascii())
+}
+
+fn has_no_hash(bytes: &[u8]) -> bool
+    ensures { result ≡ list_all is_no_hash bytes.now }
+{
+    bytes.iter().all(|b| *b != b'#')
+}
+
+/// The parts of the program that all the bytes spell.
+fn all_spelled(alloc: Global, bytes: &[u8], tokens: &[Token]) -> Result<Parts, Unread>
+    requires { IsTrue (list_all is_ascii bytes.now) }
+    ensures { Gives (λ r. record { name = r.name; nest = record { arrays = r.arrays; items = r.items }; fills = r.fills }) result (whole (program_at bytes.now tokens.now)) }
+{
+    let (found, rest) = spelled(alloc, bytes, tokens)?;
+    match rest {
+        [] => Ok(found),
+        [_next, ..] => Err(Unread::Refused),
+    }
+}
+
+fn spelled_by(alloc: Global, bytes: &[u8]) -> Result<Parts, Unread>
+    requires short { length bytes.now < 2 ^ 32 }
+    requires ascii { IsTrue (list_all is_ascii bytes.now) }
+    ensures { Gives (λ r. record { name = r.name; nest = record { arrays = r.arrays; items = r.items }; fills = r.fills }) result (program_of bytes.now (tokens_of bytes.now)) }
+{
+    match tokens(alloc, bytes) {
+        Err(LexError::Memory) => Err(Unread::Memory),
+        Err(_) => Err(Unread::Refused),
+        Ok(found) => all_spelled(alloc, bytes, found.as_slice()),
+    }
+}
+
+/// The program of these parts, where it keeps the limits and can be run.
+fn fine(parts: Parts) -> Result<Program, Unread>
+    ensures { Gives (λ p. p) result (fine (record { name = parts.name; nest = record { arrays = parts.arrays; items = parts.items }; fills = parts.fills })) }
+{
+    let Parts {
+        name,
+        arrays,
+        items,
+        fills,
+    } = parts;
+    match Nest::new(arrays, items) {
+        None => Err(Unread::Refused),
+        Some(nest) => {
+            if is_sound(&nest) {
+                Ok(Program { name, nest, fills })
+            } else {
+                Err(Unread::Refused)
+            }
+        }
+    }
+}
+
+/// The program that the bytes spell, where they are accepted.
+#[tactic(auto, unfolding(crate::specs::Accepted::accepted))]
+pub fn accepted(alloc: Global, bytes: &[u8]) -> Result<Program, Unread>
+    requires { length bytes.now < 2 ^ 32 }
+    ensures { Gives (λ p. p) result (accepted bytes.now) }
+{
+    if !are_ascii(bytes) || !has_no_hash(bytes) {
+        return Err(Unread::Refused);
+    }
+    let parts = spelled_by(alloc, bytes)?;
+    fine(parts)
 }
