@@ -44,7 +44,7 @@ head_highs depth lows highs h =
     let parts : IsTrue (head_fits depth lows highs) = h in
     let fit : IsTrue (highs_fit depth highs) = (and_parts (lows_fit depth lows) (highs_fit depth highs) ((and_parts _ _ parts).1)).1 in
     (and_parts (list_all (coefs_fit depth) highs) (list_all constant_fits highs || list_all raised_fits highs)
-        ((and_parts (are_few highs) (list_all (coefs_fit depth) highs && (list_all constant_fits highs || list_all raised_fits highs)) fit).1)).0
+    ((and_parts (are_few highs) (list_all (coefs_fit depth) highs && (list_all constant_fits highs || list_all raised_fits highs)) fit).1)).0
 
 pub loop_fits_is : (arrays : List ArrayDecl) (lows highs : List Form) (items : List Item) (boxes : List Range)
     → item_fits arrays (Loop lows highs items) boxes ≡ item_fits_step arrays (Item-F.Loop lows highs (map (item_fits arrays) items)) boxes

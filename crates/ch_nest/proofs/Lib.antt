@@ -5,5 +5,6 @@ pub mod Places
 pub mod Rests
 pub mod Runs
 pub mod Signed
+pub mod StartCells
 pub mod Turns
 pub mod Walks

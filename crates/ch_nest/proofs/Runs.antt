@@ -62,7 +62,7 @@ pub run_assign : (arrays : List ArrayDecl) (item : Item) (label : ℕ) (body : B
     → next ≡ set cells (place arrays body.write point) (expr_value arrays point cells body.right) → next ≡ run_item arrays item point cells
 run_assign arrays item label body point cells next is h =
     let e : run_item arrays (Assign label body) point cells ≡ set cells (place arrays body.write point) (expr_value arrays point cells body.right) =
-        ap (λ f. f point cells) (ap (run_item arrays) (sym (rolls-Assign label body)) ∙ fold-roll-Item Change (item_step arrays) _) in
+    ap (λ f. f point cells) (ap (run_item arrays) (sym (rolls-Assign label body)) ∙ fold-roll-Item Change (item_step arrays) _) in
     h ∙ sym e ∙ sym (ap (λ i. run_item arrays i point cells) is)
 
 pub inside_loop_is : (arrays : List ArrayDecl) (lows highs : List Form) (items : List Item) (point : List ℤ)

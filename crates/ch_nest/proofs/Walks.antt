@@ -81,7 +81,7 @@ work_loop_is lows highs items point = ap (λ f. f point) (ap item_work (sym (rol
 pub loop_walked : (arrays : List ArrayDecl) (item : Item) (lows highs : List Form) (items : List Item) (point : List ℤ) (left : ℕ) (r : Option ℕ)
     → item ≡ Loop lows highs items
     → r ≡ left_of left (turns_work (count (low_of lows point) (high_of highs point)) (low_of lows point) (λ i. items_work items (point ++ i ∷ [])))
-        (each_turn (count (low_of lows point) (high_of highs point)) (low_of lows point) (λ i. items_inside arrays items (point ++ i ∷ [])))
+    (each_turn (count (low_of lows point) (high_of highs point)) (low_of lows point) (λ i. items_inside arrays items (point ++ i ∷ [])))
     → r ≡ left_of left (item_work item point) (item_inside arrays item point)
 loop_walked arrays item lows highs items point left r is h = rw (is, work_loop_is, inside_loop_is) h
 

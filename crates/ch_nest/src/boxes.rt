@@ -85,7 +85,10 @@ fn least_in(boxes: &[Range], form: &Aff) -> i128
     ensures value { result ≡ least_in boxes.now form.now }
     ensures bound { IsAtMost (2 ^ 64) result }
 {
-    plus(i128::from(form.constant), least_sum(form.coefs.as_slice(), boxes))
+    plus(
+        i128::from(form.constant),
+        least_sum(form.coefs.as_slice(), boxes),
+    )
 }
 
 /// The greatest value of a form over boxes.
@@ -96,7 +99,10 @@ fn greatest_in(boxes: &[Range], form: &Aff) -> i128
     ensures value { result ≡ greatest_in boxes.now form.now }
     ensures bound { IsAtMost (2 ^ 64) result }
 {
-    plus(i128::from(form.constant), greatest_sum(form.coefs.as_slice(), boxes))
+    plus(
+        i128::from(form.constant),
+        greatest_sum(form.coefs.as_slice(), boxes),
+    )
 }
 
 /// Where the box of a loop begins.

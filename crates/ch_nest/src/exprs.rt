@@ -38,7 +38,8 @@ fn has_dimensions(arrays: &[ArrayDecl], k: u32, n: usize) -> bool
 fn access_fits(arrays: &[ArrayDecl], depth: usize, access: &Access) -> bool
     ensures { result ≡ access_fits arrays.now depth access.now }
 {
-    has_dimensions(arrays, access.array, access.subs.len()) && all_subs_fit(depth, access.subs.as_slice())
+    has_dimensions(arrays, access.array, access.subs.len())
+        && all_subs_fit(depth, access.subs.as_slice())
 }
 
 fn parts_fit(arrays: &[ArrayDecl], depth: usize, expr: &Expr) -> bool
@@ -111,7 +112,8 @@ fn nested(expr: &Expr, standing: Standing, left: u32) -> bool
         },
         Expr::Mul(x, y) => match inside(is_operand(standing), left) {
             None => false,
-            Some(l) => nested(x.get(), Standing::Factor, l) && nested(y.get(), Standing::Operand, l),
+            Some(l) => nested(x.get(), Standing::Factor, l)
+                && nested(y.get(), Standing::Operand, l),
         },
     }
 }

@@ -1,17 +1,19 @@
 //! Loop nests over arrays, and what they do when they run in program order.
 #![tactic(auto)]
 
+mod boxes;
+mod cells;
+mod exprs;
+mod fills;
+mod forms;
 mod limits;
 mod nest;
 mod place;
 mod run;
 mod shape;
 mod walk;
-mod boxes;
-mod cells;
-mod exprs;
-mod forms;
 
+pub use fills::filled;
 pub use nest::{Access, ArrayDecl, Body, Expr, Fill, Item, Nest, Sub};
 pub use run::run_nest;
 pub use walk::is_sound;

@@ -1,5 +1,6 @@
 /// Loops around one another.
 pub(crate) const DEEPEST: usize = 6;
+
 pub(crate) const MOST_STATEMENTS: u32 = 16;
 /// Numbers, names and accesses of one right side.
 pub(crate) const MOST_OPERANDS: u32 = 256;
@@ -11,6 +12,7 @@ pub(crate) const MOST_FORMS: usize = 4;
 pub(crate) const MOST_AFFINE: u64 = 1 << 30;
 /// The magnitude of a number.
 pub(crate) const MOST_NUMBER: u64 = 1 << 31;
+
 pub(crate) const MOST_DIMENSIONS: usize = 4;
 /// Cells of all arrays.
 pub(crate) const MOST_CELLS: u64 = 262144;

@@ -52,7 +52,10 @@ pub enum Item {
         items: List<Item>,
     },
     /// Statements are labelled from 0 in text order.
-    Assign { label: u32, body: Body },
+    Assign {
+        label: u32,
+        body: Body,
+    },
 }
 
 /// An array: its name, and its extents from the outermost dimension on.
@@ -110,5 +113,12 @@ impl Nest {
             return None;
         }
         Some(Nest { arrays, items })
+    }
+
+    /// Tells a caller that the nest is well formed, as each value of the type is. It does nothing.
+    pub fn known(&self)
+        ensures { IsTrue (is_nest self.now) }
+    {
+        let _ = self.arrays.len();
     }
 }

@@ -80,7 +80,7 @@ fn negated(x: i64) -> i64
     x.wrapping_neg()
 }
 
-fn plus(x: i64, y: i64) -> i64
+pub(crate) fn plus(x: i64, y: i64) -> i64
     ensures { result ≡ int_wrap w64 (x +ℤ y) }
 {
     x.wrapping_add(y)
@@ -92,7 +92,7 @@ fn minus(x: i64, y: i64) -> i64
     x.wrapping_sub(y)
 }
 
-fn times(x: i64, y: i64) -> i64
+pub(crate) fn times(x: i64, y: i64) -> i64
     ensures { result ≡ int_wrap w64 (x *ℤ y) }
 {
     x.wrapping_mul(y)

@@ -114,7 +114,12 @@ fn walk_item(arrays: &[ArrayDecl], item: &Item, point: &[i64], budget: u32) -> O
                 if left == 0 {
                     return None;
                 }
-                match walk_items(arrays, items.as_slice(), &inner[..point.len() + 1], left - 1) {
+                match walk_items(
+                    arrays,
+                    items.as_slice(),
+                    &inner[..point.len() + 1],
+                    left - 1,
+                ) {
                     None => return None,
                     Some(rest) => left = rest,
                 }
@@ -129,5 +134,11 @@ fn walk_item(arrays: &[ArrayDecl], item: &Item, point: &[i64], budget: u32) -> O
 pub fn is_sound(nest: &Nest) -> bool
     ensures { result ≡ is_sound nest.now }
 {
-    walk_items(nest.arrays.as_slice(), nest.items.as_slice(), &[], MOST_WORK).is_some()
+    walk_items(
+        nest.arrays.as_slice(),
+        nest.items.as_slice(),
+        &[],
+        MOST_WORK,
+    )
+    .is_some()
 }

@@ -13,4 +13,4 @@ returns-in-len1-up-boxes-clause-value t c =
     let sum = simp to_z-of_z at c.plus.ensures.value in
     let term = simp to_z-of_z at c.greatest_term.ensures.value in
     simp to_z-of_z (greatest_sum_first c.args.coefs.now c.args.boxes.now c.greatest_term.result c.greatest_sum.result c.plus.result
-        c.in-len1-up.len_at_least c.in-len1-up-boxes.len_at_least term c.greatest_sum.ensures.value sum)
+    c.in-len1-up.len_at_least c.in-len1-up-boxes.len_at_least term c.greatest_sum.ensures.value sum)

@@ -13,4 +13,4 @@ returns-in-len1-up-boxes-clause-value t c =
     let sum = simp to_z-of_z at c.plus.ensures.value in
     let term = simp to_z-of_z at c.least_term.ensures.value in
     simp to_z-of_z (least_sum_first c.args.coefs.now c.args.boxes.now c.least_term.result c.least_sum.result c.plus.result
-        c.in-len1-up.len_at_least c.in-len1-up-boxes.len_at_least term c.least_sum.ensures.value sum)
+    c.in-len1-up.len_at_least c.in-len1-up-boxes.len_at_least term c.least_sum.ensures.value sum)

@@ -22,4 +22,4 @@ item_fits-returns-in-Some t c =
     let box = rw (c.as_slice-lows.ensures, c.as_slice-highs.ensures) at c.in-Some.ensures.0 in
     let inner = rw c.as_slice.ensures at c.items_fit.ensures in
     loop_fits c.args.arrays.now c.args.item.now c.in-Loop.lows c.in-Loop.highs c.in-Loop.items c.args.boxes.now _ c.in-Some.inner c.items_fit.result
-      c.in-Loop.is head (some_items c.in-Loop.items c.if-is_empty.ensures) box c.in-Some.ensures.1 c.extended_boxes-boxes_inside.ensures inner
+    c.in-Loop.is head (some_items c.in-Loop.items c.if-is_empty.ensures) box c.in-Some.ensures.1 c.extended_boxes-boxes_inside.ensures inner

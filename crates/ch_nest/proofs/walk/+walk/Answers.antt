@@ -92,12 +92,12 @@ walk_items-walk_item-requires t c = (
 pub walk_items-returns-in-None : goal.walk_items-returns-in-None
 walk_items-returns-in-None t c =
     sym (items_end c.args.arrays.now c.args.items.now c.args.point.now c.loop-item.left c.loop-item.item-index c.item-item.result _ c.loop-item-test.true
-        (rw c.item-item.is at (sym c.in-None.ensures)) c.loop-item.invariant)
+    (rw c.item-item.is at (sym c.in-None.ensures)) c.loop-item.invariant)
 
 pub walk_items-loop-item-preserved : goal.walk_items-loop-item-preserved
 walk_items-loop-item-preserved t c =
     items_go_on c.args.arrays.now c.args.items.now c.args.point.now c.loop-item.left c.in-Some.rest c.loop-item.item-index c.item-item.result _ c.loop-item-test.true
-      (rw c.item-item.is at (sym c.in-Some.ensures)) c.loop-item.invariant
+    (rw c.item-item.is at (sym c.in-Some.ensures)) c.loop-item.invariant
 
 pub walk_item-returns-in-None : goal.walk_item-returns-in-None
 walk_item-returns-in-None t c =
@@ -112,7 +112,7 @@ walk_item-returns-in-None t c =
     let inner = rw value at (simp to_z-of_z at c.extended-inner.ensures) in
     let here = rw c.as_slice-in-loop-k.ensures at c.in-None.ensures in
     loop_ends c.args.arrays.now c.args.item.now c.in-Loop.lows c.in-Loop.highs c.in-Loop.items c.args.point.now c.args.budget c.loop-k.left c.loop-k.k c.turns_of-turns.result c.greatest_low-low.result c.least_high-high.result c.in-Loop.is low high n c.loop-k-test.true before
-      (turn_left c.args.arrays.now c.in-Loop.items c.args.point.now (take (length c.args.point.now + 1) c.extended-inner.result) c.loop-k.left c.loop-k.k c.greatest_low-low.result None inner c.if-left-eq0.false here)
+    (turn_left c.args.arrays.now c.in-Loop.items c.args.point.now (take (length c.args.point.now + 1) c.extended-inner.result) c.loop-k.left c.loop-k.k c.greatest_low-low.result None inner c.if-left-eq0.false here)
 
 pub walk_item-returns-then-left-eq0 : goal.walk_item-returns-then-left-eq0
 walk_item-returns-then-left-eq0 t c =
@@ -123,8 +123,8 @@ walk_item-returns-then-left-eq0 t c =
     let n = simp to_z-of_z at c.turns_of-turns.ensures in
     let before = simp to_z-of_z at c.loop-k.invariant in
     loop_ends c.args.arrays.now c.args.item.now c.in-Loop.lows c.in-Loop.highs c.in-Loop.items c.args.point.now c.args.budget c.loop-k.left c.loop-k.k c.turns_of-turns.result c.greatest_low-low.result c.least_high-high.result c.in-Loop.is low high n c.loop-k-test.true before
-      (none_left c.loop-k.left (items_work c.in-Loop.items (c.args.point.now ++ (c.greatest_low-low.result +ℤ pos c.loop-k.k) ∷ []))
-        (items_inside c.args.arrays.now c.in-Loop.items (c.args.point.now ++ (c.greatest_low-low.result +ℤ pos c.loop-k.k) ∷ [])) c.if-left-eq0.true)
+    (none_left c.loop-k.left (items_work c.in-Loop.items (c.args.point.now ++ (c.greatest_low-low.result +ℤ pos c.loop-k.k) ∷ []))
+    (items_inside c.args.arrays.now c.in-Loop.items (c.args.point.now ++ (c.greatest_low-low.result +ℤ pos c.loop-k.k) ∷ [])) c.if-left-eq0.true)
 
 pub walk_item-loop-k-preserved : goal.walk_item-loop-k-preserved
 walk_item-loop-k-preserved t c =
@@ -135,8 +135,8 @@ walk_item-loop-k-preserved t c =
     let inner = rw value at (simp to_z-of_z at c.extended-inner.ensures) in
     let here = rw c.as_slice-in-loop-k.ensures at c.in-Some.ensures in
     simp to_z-of_z (turns_go_on c.args.budget c.loop-k.left c.in-Some.rest c.loop-k.k c.greatest_low-low.result
-        (λ i. items_work c.in-Loop.items (c.args.point.now ++ i ∷ [])) (λ i. items_inside c.args.arrays.now c.in-Loop.items (c.args.point.now ++ i ∷ [])) before
-        (turn_left c.args.arrays.now c.in-Loop.items c.args.point.now (take (length c.args.point.now + 1) c.extended-inner.result) c.loop-k.left c.loop-k.k c.greatest_low-low.result (Some c.in-Some.rest) inner c.if-left-eq0.false here))
+    (λ i. items_work c.in-Loop.items (c.args.point.now ++ i ∷ [])) (λ i. items_inside c.args.arrays.now c.in-Loop.items (c.args.point.now ++ i ∷ [])) before
+    (turn_left c.args.arrays.now c.in-Loop.items c.args.point.now (take (length c.args.point.now + 1) c.extended-inner.result) c.loop-k.left c.loop-k.k c.greatest_low-low.result (Some c.in-Some.rest) inner c.if-left-eq0.false here))
 
 pub walk_item-returns-after-loop-k : goal.walk_item-returns-after-loop-k
 walk_item-returns-after-loop-k t c =
