@@ -15,5 +15,6 @@ mod walk;
 
 pub use fills::filled;
 pub use nest::{Access, ArrayDecl, Body, Expr, Fill, Item, Nest, Sub};
+pub use place::cells_in;
 pub use run::run_nest;
 pub use walk::is_sound;

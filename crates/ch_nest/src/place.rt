@@ -9,7 +9,7 @@ ghost use Rattle.ch_nest.specs.Sound.{access_inside};
 use crate::nest::{Access, ArrayDecl, Sub};
 
 /// How many cells an array of these extents has.
-pub(crate) fn cells_in(extents: &[u32]) -> usize
+pub fn cells_in(extents: &[u32]) -> usize
     requires few { cells_in extents.now ≤ 2 ^ 40 }
     requires some { IsTrue (list_all (nat_le 1) extents.now) }
     ensures { result ≡ cells_in extents.now }

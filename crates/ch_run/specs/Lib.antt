@@ -3,5 +3,7 @@ pub mod Entries
 pub mod Gives
 pub mod Heads
 pub mod Items
+pub mod Out
 pub mod Parts
 pub mod Read
+pub mod Text

@@ -1,4 +1,4 @@
-ghost use Rattle.std.specs.Prelude.{◌≡◌, ◌≤◌, ◌<◌, length, IsTrue, []};
+ghost use Rattle.std.specs.Prelude.{◌≡◌, ◌≤◌, ◌<◌, length, IfOk, IsTrue, OnOk, []};
 ghost use Rattle.std.specs.List.{list_all};
 ghost use Rattle.std.specs.Char.{is_ascii};
 ghost use Rattle.ch_run.specs.Gives.{Gives};
@@ -149,7 +149,8 @@ fn array<'a>(
     tokens: &'a [Token],
 ) -> Result<&'a [Token], Unread>
     requires { IsTrue (list_all is_ascii bytes.now) }
-    ensures { Gives (λ r. (declared.new, r.now)) result (array_at bytes.now declared.old tokens.now) }
+    ensures exact { Gives (λ r. (declared.new, r.now)) result (array_at bytes.now declared.old tokens.now) }
+    ensures fills { length declared.old.fills ≡ length declared.old.arrays → OnOk result (length declared.new.fills ≡ length declared.new.arrays) }
 {
     let rest = keyword(bytes, Keyword::Array, tokens)?;
     let (text, rest) = fresh(bytes, &declared.names, rest)?;
@@ -175,7 +176,8 @@ pub(crate) fn arrays<'a>(
     tokens: &'a [Token],
 ) -> Result<(Declared, &'a [Token]), Unread>
     requires { IsTrue (list_all is_ascii bytes.now) }
-    ensures { Gives (λ r. (r.0, r.1.now)) result (arrays_at bytes.now names tokens.now) }
+    ensures exact { Gives (λ r. (r.0, r.1.now)) result (arrays_at bytes.now names tokens.now) }
+    ensures fills { IfOk result (λ r. length r.0.fills ≡ length r.0.arrays) }
 {
     let mut declared = Declared {
         names,

@@ -1,8 +1,8 @@
-ghost use Rattle.std.specs.Prelude.{◌≡◌, ◌<◌, ◌^◌, length, IsTrue, ◌&&◌};
+ghost use Rattle.std.specs.Prelude.{◌≡◌, ◌<◌, ◌^◌, length, IfOk, IsTrue, ◌&&◌};
 ghost use Rattle.std.specs.Char.{is_ascii};
 ghost use Rattle.std.specs.List.{list_all};
 ghost use Rattle.ch_lex.specs.Tokens.{tokens_of};
-ghost use Rattle.ch_run.specs.Accepted.{accepted, fine, is_no_hash, is_plain, program_of, whole};
+ghost use Rattle.ch_run.specs.Accepted.{accepted, fine, is_fine, is_no_hash, is_plain, program_of, whole};
 ghost use Rattle.ch_run.specs.Gives.{Gives};
 ghost use Rattle.ch_run.specs.Items.{program_at};
 
@@ -40,7 +40,8 @@ fn spelled<'a>(
     tokens: &'a [Token],
 ) -> Result<(Parts, &'a [Token]), Unread>
     requires { IsTrue (list_all is_ascii bytes.now) }
-    ensures { Gives (λ r. (record { name = r.0.name; nest = record { arrays = r.0.arrays; items = r.0.items }; fills = r.0.fills }, r.1.now)) result (program_at bytes.now tokens.now) }
+    ensures exact { Gives (λ r. (record { name = r.0.name; nest = record { arrays = r.0.arrays; items = r.0.items }; fills = r.0.fills }, r.1.now)) result (program_at bytes.now tokens.now) }
+    ensures fills { IfOk result (λ r. length r.0.fills ≡ length r.0.arrays) }
 {
     let rest = keyword(bytes, Keyword::Program, tokens)?;
     let (text, rest) = name(bytes, rest)?;
@@ -80,7 +81,8 @@ fn has_no_hash(bytes: &[u8]) -> bool
 /// The parts of the program that all the bytes spell.
 fn all_spelled(alloc: Global, bytes: &[u8], tokens: &[Token]) -> Result<Parts, Unread>
     requires { IsTrue (list_all is_ascii bytes.now) }
-    ensures { Gives (λ r. record { name = r.name; nest = record { arrays = r.arrays; items = r.items }; fills = r.fills }) result (whole (program_at bytes.now tokens.now)) }
+    ensures exact { Gives (λ r. record { name = r.name; nest = record { arrays = r.arrays; items = r.items }; fills = r.fills }) result (whole (program_at bytes.now tokens.now)) }
+    ensures fills { IfOk result (λ r. length r.fills ≡ length r.arrays) }
 {
     let (found, rest) = spelled(alloc, bytes, tokens)?;
     match rest {
@@ -92,7 +94,8 @@ fn all_spelled(alloc: Global, bytes: &[u8], tokens: &[Token]) -> Result<Parts, U
 fn spelled_by(alloc: Global, bytes: &[u8]) -> Result<Parts, Unread>
     requires short { length bytes.now < 2 ^ 32 }
     requires ascii { IsTrue (list_all is_ascii bytes.now) }
-    ensures { Gives (λ r. record { name = r.name; nest = record { arrays = r.arrays; items = r.items }; fills = r.fills }) result (program_of bytes.now (tokens_of bytes.now)) }
+    ensures exact { Gives (λ r. record { name = r.name; nest = record { arrays = r.arrays; items = r.items }; fills = r.fills }) result (program_of bytes.now (tokens_of bytes.now)) }
+    ensures fills { IfOk result (λ r. length r.fills ≡ length r.arrays) }
 {
     match tokens(alloc, bytes) {
         Err(LexError::Memory) => Err(Unread::Memory),
@@ -103,7 +106,10 @@ fn spelled_by(alloc: Global, bytes: &[u8]) -> Result<Parts, Unread>
 
 /// The program of these parts, where it keeps the limits and can be run.
 fn fine(parts: Parts) -> Result<Program, Unread>
-    ensures { Gives (λ p. p) result (fine (record { name = parts.name; nest = record { arrays = parts.arrays; items = parts.items }; fills = parts.fills })) }
+    requires { length parts.fills ≡ length parts.arrays }
+    ensures exact { Gives (λ p. p) result (fine (record { name = parts.name; nest = record { arrays = parts.arrays; items = parts.items }; fills = parts.fills })) }
+    ensures fills { IfOk result (λ p. length p.fills ≡ length p.nest.arrays) }
+    ensures sound { IfOk result (λ p. IsTrue (is_fine p)) }
 {
     let Parts {
         name,
@@ -127,7 +133,9 @@ fn fine(parts: Parts) -> Result<Program, Unread>
 #[tactic(auto, unfolding(crate::specs::Accepted::accepted))]
 pub fn accepted(alloc: Global, bytes: &[u8]) -> Result<Program, Unread>
     requires { length bytes.now < 2 ^ 32 }
-    ensures { Gives (λ p. p) result (accepted bytes.now) }
+    ensures exact { Gives (λ p. p) result (accepted bytes.now) }
+    ensures fills { IfOk result (λ p. length p.fills ≡ length p.nest.arrays) }
+    ensures sound { IfOk result (λ p. IsTrue (is_fine p)) }
 {
     if !are_ascii(bytes) || !has_no_hash(bytes) {
         return Err(Unread::Refused);

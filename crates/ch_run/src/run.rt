@@ -1,0 +1,128 @@
+ghost use Rattle.std.specs.Prelude.{◌≡◌, ◌≢◌, ◌≤◌, ◌↔◌, ◌⊎◌, IfOk, IfSome, IsTrue, Some, drop, map};
+ghost use Rattle.std.specs.String.{string_bytes};
+ghost use Rattle.std.specs.Io.KnownBytes.{Appends};
+ghost use Rattle.ch_io.specs.Faults.{HasRisen};
+ghost use Rattle.ch_io.specs.Streams.{AppendsPart};
+ghost use Rattle.ch_run.specs.Out.{AnswersAs, IsEval, Writes, most_read, out, usage};
+
+use crate::eval::{MOST_BYTES, evaluated};
+use ch_io::{Gate, ReadError, Sink, Source, read_input, write_all};
+use std::alloc::Global;
+use std::sync::Wait;
+use std::thread::Threads;
+
+fn is_eval(words: &[String]) -> bool
+    ensures { IsTrue result ↔ IsEval (map string_bytes words.now) }
+{
+    match words {
+        [word] => word.as_str() == "eval",
+        _ => false,
+    }
+}
+
+/// Writes the usage line.
+fn write_usage<K: Sink>(sink: &mut K) -> u8
+    ensures known { (result ≡ 2) ⊎ (result ≡ 4) }
+    ensures usage { result ≡ 2 → Appends (K.taken sink.old) (K.taken sink.new) usage }
+    ensures part { result ≡ 4 → AppendsPart (K.taken sink.old) (K.taken sink.new) usage }
+    ensures cause { result ≡ 4 → HasRisen (K.faults sink.old) (K.faults sink.new) }
+{
+    let line = b"usage: chilltune eval|check|show|search|run|replay|demo [--at V,V] [--builders N] [--arrays all|sum] [--number N]\n";
+    match write_all(sink, line) {
+        Ok(()) => 2,
+        Err(_) => 4,
+    }
+}
+
+/// Runs every command but `run`: reads the input, writes the text and answers a status. It waits for nobody.
+///
+/// `words` are those after the program's name. The status is 0 where the text was written, 1 where the refusal of the
+/// input was, 2 where the words are none of a command (the usage line was written, and nothing was read), 3 where a read
+/// failed, 4 where a write failed, and 5 where there was not enough memory.
+pub fn still<S: Source, K: Sink>(
+    alloc: Global,
+    words: &[String],
+    source: &mut S,
+    sink: &mut K,
+) -> u8
+    ensures known { result ≤ 5 }
+
+    // What was written at 0 and 1, and which of the two it is.
+    ensures answer { result ≤ 1 → IfSome (S.left source.old) (λ bytes. Writes (K.taken sink.old) (K.taken sink.new) result (out bytes)) }
+    // All of the input was read, but what is past the limit by more than a byte.
+    ensures read { result ≤ 1 → IfSome (S.left source.old) (λ bytes. S.left source.new ≡ Some (drop most_read bytes)) }
+
+    // The usage line comes exactly for other words, and then nothing is read.
+    ensures usage { result ≡ 2 → Appends (K.taken sink.old) (K.taken sink.new) usage }
+    ensures other_words { result ≡ 2 → IsEval (map string_bytes words.now) → ⊥ }
+    ensures usable_words { result ≢ 2 → result ≢ 4 → IsEval (map string_bytes words.now) }
+    ensures unread { (IsEval (map string_bytes words.now) → ⊥) → S.left source.new ≡ S.left source.old }
+
+    // A failed read.
+    ensures read_fault { result ≡ 3 → HasRisen (S.faults source.old) (S.faults source.new) }
+    ensures read_nothing { result ≡ 3 → K.taken sink.new ≡ K.taken sink.old }
+
+    // A failed write, and the front of the text that was written before it.
+    ensures write_fault { result ≡ 4 → HasRisen (K.faults sink.old) (K.faults sink.new) }
+    ensures write_part { result ≡ 4 → IsEval (map string_bytes words.now) → IfSome (S.left source.old) (λ bytes. AppendsPart (K.taken sink.old) (K.taken sink.new) (out bytes).text) }
+    ensures usage_part { result ≡ 4 → (IsEval (map string_bytes words.now) → ⊥) → AppendsPart (K.taken sink.old) (K.taken sink.new) usage }
+
+    // Want of memory.
+    ensures memory { result ≡ 5 → K.taken sink.new ≡ K.taken sink.old }
+{
+    if !is_eval(words) {
+        return write_usage(sink);
+    }
+    match read_input(alloc, source, MOST_BYTES + 1) {
+        Err(ReadError::Failed) => 3,
+        Err(ReadError::Memory) => 5,
+        Ok(bytes) => match evaluated(alloc, &bytes) {
+            Err(_) => 5,
+            Ok(answer) => match write_all(sink, &answer.text) {
+                Ok(()) => answer.status,
+                Err(_) => 4,
+            },
+        },
+    }
+}
+
+/// Runs a command. Every command is sent to [`still`], whose statuses and texts these are.
+///
+/// `rt` is for the commands that start threads, and `gate` may hold their threads.
+pub fn top<R: Threads + Wait + Sync, S: Source, K: Sink, G: Gate + Sync>(
+    rt: &R,
+    alloc: Global,
+    words: &[String],
+    source: &mut S,
+    sink: &mut K,
+    gate: &G,
+) -> u8
+    ensures known { result ≤ 5 }
+
+    // What was written at 0 and 1, and which of the two it is.
+    ensures answer { result ≤ 1 → IfSome (S.left source.old) (λ bytes. Writes (K.taken sink.old) (K.taken sink.new) result (out bytes)) }
+    // All of the input was read, but what is past the limit by more than a byte.
+    ensures read { result ≤ 1 → IfSome (S.left source.old) (λ bytes. S.left source.new ≡ Some (drop most_read bytes)) }
+
+    // The usage line comes exactly for other words, and then nothing is read.
+    ensures usage { result ≡ 2 → Appends (K.taken sink.old) (K.taken sink.new) usage }
+    ensures other_words { result ≡ 2 → IsEval (map string_bytes words.now) → ⊥ }
+    ensures usable_words { result ≢ 2 → result ≢ 4 → IsEval (map string_bytes words.now) }
+    ensures unread { (IsEval (map string_bytes words.now) → ⊥) → S.left source.new ≡ S.left source.old }
+
+    // A failed read.
+    ensures read_fault { result ≡ 3 → HasRisen (S.faults source.old) (S.faults source.new) }
+    ensures read_nothing { result ≡ 3 → K.taken sink.new ≡ K.taken sink.old }
+
+    // A failed write, and the front of the text that was written before it.
+    ensures write_fault { result ≡ 4 → HasRisen (K.faults sink.old) (K.faults sink.new) }
+    ensures write_part { result ≡ 4 → IsEval (map string_bytes words.now) → IfSome (S.left source.old) (λ bytes. AppendsPart (K.taken sink.old) (K.taken sink.new) (out bytes).text) }
+    ensures usage_part { result ≡ 4 → (IsEval (map string_bytes words.now) → ⊥) → AppendsPart (K.taken sink.old) (K.taken sink.new) usage }
+
+    // Want of memory.
+    ensures memory { result ≡ 5 → K.taken sink.new ≡ K.taken sink.old }
+{
+    let _ = rt;
+    let _ = gate;
+    still(alloc, words, source, sink)
+}
