@@ -15,7 +15,6 @@ IsPrefix-of_two (x ∷ xs) (y ∷ ys) (z ∷ zs) a b le =
     let r = IsPrefix-of_two xs ys zs (a.0, (cc)) (b.0, (cc)) (omega arith) in
     (r.0, λ i. sym s i ∷ r.1 i)
 
-
 pub IsPrefix-longer_at : {E : Type 0} (xs ys zs : List E) → IsPrefix xs zs → IsPrefix ys zs → (t : Bool) → ltb (length xs) (length ys) ≡ t
     → IsPrefix (cond t ys xs) zs × IsPrefix (cond t xs ys) (cond t ys xs) × IsPrefix xs (cond t ys xs) × IsPrefix ys (cond t ys xs)
 IsPrefix-longer_at xs ys zs a b true is = let lt = ltb-true (length xs) (length ys) is in let p = IsPrefix-of_two xs ys zs a b (omega arith) in (b, p, p, ([], sym (append-nil ys)))

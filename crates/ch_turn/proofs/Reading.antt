@@ -15,7 +15,6 @@ at_one : {X : Type 0} (P : X → Type 0) (x : X) → P x → All P (x ∷ [])
 at_one P x h zero d lt = h
 at_one P x h (suc k) d lt = absurd (omega arith)
 
-
 module _ {E V : Type 0} (list : V → List E) (by : E → ℕ) (news : List E → ℕ) (kin : V → Type 0) (turns : ℕ) where
   abbrev D : Type 0
   D = View E

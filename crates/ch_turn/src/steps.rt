@@ -23,12 +23,7 @@ impl<V: Listed> Turn<V> {
     }
 
     /// Waits until the ticket is the one now served, and takes the value out of the slot.
-    pub(crate) fn take<N: Kin<V>, R: Wait>(
-        &self,
-        rt: &R,
-        seat: &mut TableSeat<V>,
-        ticket: u64,
-    ) -> V
+    pub(crate) fn take<N: Kin<V>, R: Wait>(&self, rt: &R, seat: &mut TableSeat<V>, ticket: u64) -> V
         requires table { seat.old.table_id ≡ self.now.table.shared.table_id }
         requires waits { (seat.old.me.0.stage ≡ Waiting ticket) × (seat.old.me.1 ≡ []) }
         requires kin { (x : V) → V.alike self.now.table.shared.key.first.value x → N.kin x }
@@ -64,27 +59,30 @@ impl<V: Listed> Turn<V> {
         self.table.shared.store::<Tell<N>>(seat, NEWS, news);
     }
 
-    /// Moves the value back into the slot, and serves the next ticket.
-    pub(crate) fn raise<N: Next<V::Entry>>(&self, seat: &mut TableSeat<V>, value: V)
+    /// Moves the value back into the slot.
+    pub(crate) fn put_back(&self, seat: &mut TableSeat<V>, value: V)
         requires table { seat.old.table_id ≡ self.now.table.shared.table_id }
-        requires told { (t : ℕ) × (l : List V.Entry) × (seat.old.me.0.stage ≡ Leaving t l N.next) × (seat.old.me.1 ≡ (0, None) ∷ []) }
-        requires value { V.list value ≡ N.next }
-        requires alike { V.alike self.now.table.shared.key.first.value value }
-        ensures table { (seat.new.table_id ≡ seat.old.table_id) × (seat.new.id ≡ seat.old.id) × (seat.new.me.1 ≡ []) }
-        ensures raised { seat.new.me.0 ≡ view_after_turn V.by N.next seat.old.me.0 }
+        requires empty { seat.old.me.1 ≡ (0, None) ∷ [] }
+        ensures table { (seat.new.table_id ≡ seat.old.table_id) × (seat.new.id ≡ seat.old.id) }
+        ensures back { seat.new.me ≡ (seat.old.me.0, (0, Some value) ∷ []) }
     {
         let vacant = self.table.shared.exchange(seat, 0, Some(value));
         let None = vacant else { unreachable!() };
+    }
+
+    /// Serves the next ticket, where the value is in its slot again. It publishes the list that the seat leaves.
+    pub(crate) fn raise<N: Next<V::Entry>>(&self, seat: &mut TableSeat<V>)
+        requires table { seat.old.table_id ≡ self.now.table.shared.table_id }
+        requires told { (t : ℕ) × (l : List V.Entry) × (seat.old.me.0.stage ≡ Leaving t l N.next) }
+        requires back { (x : V) × (seat.old.me.1 ≡ (0, Some x) ∷ []) × (V.list x ≡ N.next) × V.alike self.now.table.shared.key.first.value x }
+        ensures table { (seat.new.table_id ≡ seat.old.table_id) × (seat.new.id ≡ seat.old.id) × (seat.new.me.1 ≡ []) }
+        ensures raised { seat.new.me.0 ≡ view_after_turn V.by N.next seat.old.me.0 }
+    {
         self.table.shared.fetch_add::<Raise>(seat, SERVING, 1);
     }
 
     /// Ends a turn: NEWS first, then the slot, then SERVING. So a read of NEWS is never behind a published list.
-    pub(crate) fn give_back<N: Next<V::Entry>>(
-        &self,
-        seat: &mut TableSeat<V>,
-        value: V,
-        news: u64,
-    )
+    pub(crate) fn give_back<N: Next<V::Entry>>(&self, seat: &mut TableSeat<V>, value: V, news: u64)
         requires table { seat.old.table_id ≡ self.now.table.shared.table_id }
         requires took { (t : ℕ) × (l : List V.Entry) × (seat.old.me.0.stage ≡ Served t l) × AddsOwn V.by seat.old.me.0.holdings l N.next }
         requires empty { seat.old.me.1 ≡ (0, None) ∷ [] }
@@ -95,7 +93,8 @@ impl<V: Listed> Turn<V> {
         ensures gave { seat.new.me.0 ≡ view_after_turn V.by N.next seat.old.me.0 }
     {
         self.tell::<N>(seat, news);
-        self.raise::<N>(seat, value);
+        self.put_back(seat, value);
+        self.raise::<N>(seat);
     }
 
     /// Cuts off a seat with the number and the turns, which are read by the contract alone.

@@ -42,11 +42,7 @@ impl<V: Listed> Turn<V> {
 
     /// A turn round a value with an empty history, of which `turns` turns may be taken in all, and its first seat.
     /// The first seat holds all numbers below 65,536; its own is 65,535. Where there is no memory the value is dropped.
-    pub fn new(
-        alloc: Global,
-        value: V,
-        turns: u64,
-    ) -> Result<(Turn<V>, TurnSeat<V>), AllocError>
+    pub fn new(alloc: Global, value: V, turns: u64) -> Result<(Turn<V>, TurnSeat<V>), AllocError>
     where
         V: Drop,
         requires room { turns ≤ 2 ^ 40 }

@@ -78,7 +78,7 @@ pub fn leave_mark<R: Wait>(rt: &R, turn: &Turn<Marks>, seat: &mut TurnSeat<Marks
 }
 
 /// Another seat has the number for one turn, and gives it back.
-pub fn lend<R: Wait>(
+fn lend<R: Wait>(
     rt: &R,
     alloc: Global,
     turn: &Turn<Marks>,
@@ -93,5 +93,23 @@ pub fn lend<R: Wait>(
     let mut other = turn.split(alloc, seat, number, 1)?;
     leave_mark(rt, turn, &mut other, 0);
     turn.join(seat, other);
+    Ok(())
+}
+
+/// Each number but the seat's own is lent once.
+pub fn lend_each<R: Wait>(
+    rt: &R,
+    alloc: Global,
+    turn: &Turn<Marks>,
+    seat: &mut TurnSeat<Marks>,
+) -> Result<(), AllocError>
+    requires idle { IsIdle turn.now 65535 seat.old × HasAllNumbers seat.old }
+    requires turns { 65535 ≤ turns_left seat.old }
+    ensures idle { IsIdle turn.now 65535 seat.new × HasAllNumbers seat.new }
+    ensures turns { OnOk result (turns_left seat.new + 65535 ≡ turns_left seat.old) }
+{
+    for number in 0..65535u32 {
+        lend(rt, alloc, turn, seat, number)?;
+    }
     Ok(())
 }

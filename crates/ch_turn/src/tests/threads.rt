@@ -21,12 +21,7 @@ fn mark_often<R: Wait>(rt: &R, turn: &Turn<Marks>, mut seat: TurnSeat<Marks>) ->
 }
 
 // A seat for the number k, with a thousand turns.
-fn cut(
-    alloc: Global,
-    turn: &Turn<Marks>,
-    seat: &mut TurnSeat<Marks>,
-    k: u32,
-) -> TurnSeat<Marks>
+fn cut(alloc: Global, turn: &Turn<Marks>, seat: &mut TurnSeat<Marks>, k: u32) -> TurnSeat<Marks>
     requires idle { IsIdle turn.now 65535 seat.old }
     requires number { (k < 65535) × HasNumber seat.old k × (1000 ≤ turns_left seat.old) }
     ensures idle { IsIdle turn.now 65535 seat.new }
@@ -74,8 +69,8 @@ pub fn mark_in_threads<R: Threads + Wait + Sync>(
     let (back, mut rest) = join(
         rt,
         move || -> TurnSeat<Marks>
-            requires { IsIdle turn.now k mine × (1000 ≤ turns_left mine) }
-            ensures { IsIdle turn.entry.now k result }
+            requires { IsIdle turn.now (own_number mine) mine × (1000 ≤ turns_left mine) }
+            ensures { IsIdle turn.entry.now (own_number mine) result }
         { mark_often(rt, turn, mine) },
         move || -> TurnSeat<Marks>
             requires { IsSync R.row × IsIdle turn.now 65535 seat × ((k + 1 ≤ n) × (n < 65535) × (1000 * n ≤ turns_left seat + 1000 * (k + 1))) × ((x : ℕ) → k + 1 ≤ x → x < n → HasNumber seat x) }
