@@ -121,6 +121,7 @@ module _ {E V : Type 0} (list : V → List E) (by : E → ℕ) (news : List E �
             (λ i d l. let one = k.reads i d l in let n : r.news_word ≡ news (list x) = pl.0 ∙ ap news (sym pl.1.2) in omega arith),
             (λ n h. ap (entries_of by n) pl.1.2 ∙ k.own n h),
             tells_kin x pl.1.3,
+            subst (All (λ e. by e < 65536)) (sym pl.1.2) r.marked,
           )),
           (λ ne. absurd (ne (here ∙ (hit ∙ sym same)))),
         )),

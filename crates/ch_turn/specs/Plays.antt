@@ -18,7 +18,7 @@ module _ {E V : Type 0} where
 
   -- the ticket t is served, and the seat takes the value x
   abbrev pub TakesValue : (V → List E) → (E → ℕ) → (List E → ℕ) → (V → Type 0) → ℕ → Seated V E → Seated V E → Type 0
-  TakesValue list by news kin t m k = (x : V) × (k.1 ≡ (0, Some x) ∷ m.1) × (k.0 ≡ at_stage m.0 (Served t (list x))) × IsPrefix m.0.seen (list x) × All (λ r. r ≤ news (list x)) m.0.reads × KnowsOwn by (list x) m.0.holdings × kin x
+  TakesValue list by news kin t m k = (x : V) × (k.1 ≡ (0, Some x) ∷ m.1) × (k.0 ≡ at_stage m.0 (Served t (list x))) × IsPrefix m.0.seen (list x) × All (λ r. r ≤ news (list x)) m.0.reads × KnowsOwn by (list x) m.0.holdings × kin x × All (λ e. by e < 65536) (list x)
 
   -- a look at SERVING, which takes the value where it finds the seat's ticket
   abbrev pub Looks : (V → List E) → (E → ℕ) → (List E → ℕ) → (V → Type 0) → Step (Option V) → Seated V E → ℕ → Seated V E → Type 0

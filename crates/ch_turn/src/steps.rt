@@ -32,6 +32,7 @@ impl<V: Listed> Turn<V> {
         ensures later { IsPrefix seat.old.me.0.seen (V.list result) × All (λ r. r ≤ V.news (V.list result)) seat.old.me.0.reads }
         ensures own { KnowsOwn V.by (V.list result) seat.old.me.0.holdings }
         ensures kin { N.kin result }
+        ensures numbered { All (λ e. V.by e < 65536) (V.list result) }
     {
         let mut round: u32 = 0;
         for _ in rt.forever() {

@@ -3,6 +3,7 @@ mod marks;
 mod threads;
 
 use crate::Turn;
+use crate::crossing::cross;
 use marks::{Mark, Marks, leave_mark, lend_each};
 use std::test::Fail;
 use threads::mark_in_threads;
@@ -78,7 +79,7 @@ fn all_numbers_are_back_at_close(rt: HostRuntime) -> Result<(), Fail> {
     lend_each(&rt, alloc, &turn, &mut seat)?;
     leave_mark(&rt, &turn, &mut seat, 0);
     assert!(rt; seat.left() == 0);
-    let marks = turn.close(seat);
+    let marks = cross(&rt, alloc, turn, seat);
     assert!(rt; marks.len() == 65536);
     for (i, m) in marks.as_slice().iter().enumerate() {
         assert!(rt; m.by as usize == i && m.count == 0);

@@ -81,11 +81,12 @@ impl<V: Listed> Turn<V> {
         ensures turns { turns_left seat.new + 1 ≡ turns_left seat.old }
         ensures knows { KnowsSame seat.old seat.new }
 
-        // What the seat knew is of this history: it begins with what the seat has seen, has passed each number read,
-        // and has no entry of the seat's numbers but those that the seat knows.
+        // What the seat knew is of this history: it begins with what the seat has seen, its news are no less than any
+        // that the seat read, and of the seat's numbers it has exactly the entries that the seat knows.
         ensures seen { IsPrefix (seen_by seat.old) (V.list result) }
         ensures reads { All (λ r. r ≤ V.news (V.list result)) (reads_of seat.old) }
         ensures own { (n : ℕ) → HasNumber seat.old n → entries_of V.by n (V.list result) ≡ own_entries n (holdings seat.old) }
+        ensures numbered { All (λ e. V.by e < 65536) (V.list result) }
         ensures alike { V.alike (first_value self.now) result }
     {
         let ticket = self.draw(&mut seat.seat);
