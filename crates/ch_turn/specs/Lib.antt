@@ -1,0 +1,6 @@
+pub mod Holdings
+pub mod History
+pub mod Views
+pub mod Rule
+pub mod Plays
+pub mod Seats
