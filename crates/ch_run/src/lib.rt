@@ -1,4 +1,7 @@
-//! The program: words and bytes in, a text and a status out.
+//! The program's commands: words and bytes in, a text and a status out.
+//!
+//! Today that is `eval` of one program: the reader of its text, which is a private part of this crate, the text that is
+//! printed, and the two calls that the program is.
 #![tactic(auto)]
 
 mod eval;
@@ -9,6 +12,8 @@ mod names;
 mod parts;
 mod program;
 mod run;
+#[cfg(test)]
+mod tests;
 mod text;
 mod unread;
 
