@@ -1,3 +1,4 @@
+pub mod Apart
 pub mod Ascii
 pub mod Fine
 pub mod Found

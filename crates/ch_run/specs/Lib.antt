@@ -1,4 +1,5 @@
 pub mod Accepted
+pub mod Distinct
 pub mod Entries
 pub mod Gives
 pub mod Heads

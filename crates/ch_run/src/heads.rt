@@ -1,6 +1,7 @@
 ghost use Rattle.std.specs.Prelude.{◌≡◌, ◌≤◌, ◌<◌, length, IfOk, IsTrue, OnOk, []};
 ghost use Rattle.std.specs.List.{list_all};
 ghost use Rattle.std.specs.Char.{is_ascii};
+ghost use Rattle.ch_run.specs.Distinct.{AreApart};
 ghost use Rattle.ch_run.specs.Gives.{Gives};
 ghost use Rattle.ch_run.specs.Heads.{array_at, arrays_at, extent_at, extent_if, extent_named, extents_at, fill_at, let_at, lets_at};
 
@@ -151,6 +152,7 @@ fn array<'a>(
     requires { IsTrue (list_all is_ascii bytes.now) }
     ensures exact { Gives (λ r. (declared.new, r.now)) result (array_at bytes.now declared.old tokens.now) }
     ensures fills { length declared.old.fills ≡ length declared.old.arrays → OnOk result (length declared.new.fills ≡ length declared.new.arrays) }
+    ensures apart { AreApart declared.old → OnOk result (AreApart declared.new) }
 {
     let rest = keyword(bytes, Keyword::Array, tokens)?;
     let (text, rest) = fresh(bytes, &declared.names, rest)?;
@@ -178,6 +180,7 @@ pub(crate) fn arrays<'a>(
     requires { IsTrue (list_all is_ascii bytes.now) }
     ensures exact { Gives (λ r. (r.0, r.1.now)) result (arrays_at bytes.now names tokens.now) }
     ensures fills { IfOk result (λ r. length r.0.fills ≡ length r.0.arrays) }
+    ensures apart { IfOk result (λ r. AreApart r.0) }
 {
     let mut declared = Declared {
         names,

@@ -3,6 +3,7 @@ ghost use Rattle.std.specs.Char.{is_ascii};
 ghost use Rattle.std.specs.List.{list_all};
 ghost use Rattle.ch_lex.specs.Tokens.{tokens_of};
 ghost use Rattle.ch_run.specs.Accepted.{accepted, fine, is_fine, is_no_hash, is_plain, program_of, whole};
+ghost use Rattle.ch_run.specs.Distinct.{are_distinct};
 ghost use Rattle.ch_run.specs.Gives.{Gives};
 ghost use Rattle.ch_run.specs.Items.{program_at};
 
@@ -42,6 +43,7 @@ fn spelled<'a>(
     requires { IsTrue (list_all is_ascii bytes.now) }
     ensures exact { Gives (λ r. (record { name = r.0.name; nest = record { arrays = r.0.arrays; items = r.0.items }; fills = r.0.fills }, r.1.now)) result (program_at bytes.now tokens.now) }
     ensures fills { IfOk result (λ r. length r.0.fills ≡ length r.0.arrays) }
+    ensures distinct { IfOk result (λ r. IsTrue (are_distinct r.0.arrays)) }
 {
     let rest = keyword(bytes, Keyword::Program, tokens)?;
     let (text, rest) = name(bytes, rest)?;
@@ -83,6 +85,7 @@ fn all_spelled(alloc: Global, bytes: &[u8], tokens: &[Token]) -> Result<Parts, U
     requires { IsTrue (list_all is_ascii bytes.now) }
     ensures exact { Gives (λ r. record { name = r.name; nest = record { arrays = r.arrays; items = r.items }; fills = r.fills }) result (whole (program_at bytes.now tokens.now)) }
     ensures fills { IfOk result (λ r. length r.fills ≡ length r.arrays) }
+    ensures distinct { IfOk result (λ r. IsTrue (are_distinct r.arrays)) }
 {
     let (found, rest) = spelled(alloc, bytes, tokens)?;
     match rest {
@@ -96,6 +99,7 @@ fn spelled_by(alloc: Global, bytes: &[u8]) -> Result<Parts, Unread>
     requires ascii { IsTrue (list_all is_ascii bytes.now) }
     ensures exact { Gives (λ r. record { name = r.name; nest = record { arrays = r.arrays; items = r.items }; fills = r.fills }) result (program_of bytes.now (tokens_of bytes.now)) }
     ensures fills { IfOk result (λ r. length r.fills ≡ length r.arrays) }
+    ensures distinct { IfOk result (λ r. IsTrue (are_distinct r.arrays)) }
 {
     match tokens(alloc, bytes) {
         Err(LexError::Memory) => Err(Unread::Memory),
@@ -106,9 +110,11 @@ fn spelled_by(alloc: Global, bytes: &[u8]) -> Result<Parts, Unread>
 
 /// The program of these parts, where it keeps the limits and can be run.
 fn fine(parts: Parts) -> Result<Program, Unread>
-    requires { length parts.fills ≡ length parts.arrays }
+    requires fills { length parts.fills ≡ length parts.arrays }
+    requires distinct { IsTrue (are_distinct parts.arrays) }
     ensures exact { Gives (λ p. p) result (fine (record { name = parts.name; nest = record { arrays = parts.arrays; items = parts.items }; fills = parts.fills })) }
     ensures fills { IfOk result (λ p. length p.fills ≡ length p.nest.arrays) }
+    ensures distinct { IfOk result (λ p. IsTrue (are_distinct p.nest.arrays)) }
     ensures sound { IfOk result (λ p. IsTrue (is_fine p)) }
 {
     let Parts {
@@ -129,12 +135,14 @@ fn fine(parts: Parts) -> Result<Program, Unread>
     }
 }
 
-/// The program that the bytes spell, where they are accepted.
+/// The program that the bytes spell, where they are accepted. Then each array has a fill, no two arrays have one name, and
+/// the nest keeps the limits and can be run.
 #[tactic(auto, unfolding(crate::specs::Accepted::accepted))]
 pub fn accepted(alloc: Global, bytes: &[u8]) -> Result<Program, Unread>
     requires { length bytes.now < 2 ^ 32 }
     ensures exact { Gives (λ p. p) result (accepted bytes.now) }
     ensures fills { IfOk result (λ p. length p.fills ≡ length p.nest.arrays) }
+    ensures distinct { IfOk result (λ p. IsTrue (are_distinct p.nest.arrays)) }
     ensures sound { IfOk result (λ p. IsTrue (is_fine p)) }
 {
     if !are_ascii(bytes) || !has_no_hash(bytes) {
