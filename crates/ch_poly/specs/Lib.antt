@@ -1,0 +1,7 @@
+pub mod Boxes
+pub mod Cutting
+pub mod Fixed
+pub mod Goals
+pub mod Opposed
+pub mod Points
+pub mod Rooms

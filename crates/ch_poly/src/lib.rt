@@ -1,0 +1,9 @@
+//! Stage.
+#![tactic(auto)]
+
+mod cut;
+mod goal;
+mod narrow;
+mod peak;
+mod opposed;
+mod search;
