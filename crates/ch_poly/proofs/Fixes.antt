@@ -1,6 +1,6 @@
 -- Boxes whose first ranges are single numbers.
-use Rattle.std.proofs.Common.{◌≡◌, ℕ, zero, suc, ◌+◌, ◌<◌, ◌≤◌, ◌^◌, ◌⊎◌, inl, inr, ℤ, pos, ◌+ℤ◌, ◌≤ℤ◌, ◌<ℤ◌, unsigned_abs, Bool, true, false, ◌&&◌, cond, List, [], ◌∷◌, length, get_or, set, int_eq, refl, sym, ap, ◌∙◌, subst, arith}
-use Rattle.std.specs.List.{All, filter}
+use Rattle.std.proofs.Common.{◌≡◌, ℕ, zero, suc, ◌+◌, ◌<◌, ◌≤◌, ◌^◌, ◌⊎◌, inl, inr, ℤ, pos, ◌+ℤ◌, ◌≤ℤ◌, ◌<ℤ◌, unsigned_abs, Bool, true, false, ◌&&◌, ◌||◌, cond, List, [], ◌∷◌, length, get_or, set, int_eq, refl, sym, ap, ◌∙◌, subst, arith}
+use Rattle.std.specs.List.{All, filter, list_any}
 use Rattle.std.proofs.lemmas.Int.{ints}
 use Rattle.std.proofs.lemmas.Bool.{cases_eq, cases_lt}
 use Rattle.std.proofs.lemmas.List.{length-set}
@@ -8,7 +8,7 @@ use Rattle.std.proofs.lemmas.List.Elements.{All-from_get_or}
 use Rattle.ch_affine.specs.Form.{Form}
 use Rattle.ch_affine.specs.Affine.{IsAtMost}
 use Rattle.ch_affine.specs.Rows.{Rows, all_hold}
-use Rattle.ch_poly.specs.Points.{begins, points, points_from, box_points}
+use Rattle.ch_poly.specs.Points.{begins, points, box_points}
 use Rattle.ch_poly.specs.Boxes.{at, IsBoxed, Within}
 use Rattle.ch_poly.specs.Fixed.{IsFixed, Begins, HasPoint}
 use Rattle.ch_poly.proofs.Ranges.{at_set}
@@ -150,15 +150,42 @@ pub filter_twice : (f g : List ℤ → Bool) (ps : List (List ℤ)) → filter f
 filter_twice f g [] = refl
 filter_twice f g (p ∷ ps) = twice_at f (g p) p _ _ (filter_twice f g ps)
 
-pub has_some : (s : Rows) (fixed : List ℤ) → length fixed ≤ length (lows_of s.boxes) → HasPoint s.rows fixed (lows_of s.boxes) (highs_of s.boxes) → points_from s fixed ≡ [] → ⊥
+pub has_some : (s : Rows) (fixed : List ℤ) → length fixed ≤ length (lows_of s.boxes) → HasPoint s.rows fixed (lows_of s.boxes) (highs_of s.boxes) → filter (begins fixed) (points s) ≡ [] → ⊥
 has_some s fixed le h e =
     some_all s.boxes (λ p. cond (all_hold s.rows p) (begins fixed p) false) h.point (from_within s.boxes h.point h.within)
     (ap (λ t. cond t (begins fixed h.point) false) (holds_true s.rows h.point h.holds) ∙ begins_true fixed h.point (omega (arith, h.within.same)) h.begins)
     (sym (filter_twice (begins fixed) (all_hold s.rows) (box_points s.boxes)) ∙ e)
 
-pub has_none : (s : Rows) (fixed : List ℤ) → (HasPoint s.rows fixed (lows_of s.boxes) (highs_of s.boxes) → ⊥) → points_from s fixed ≡ []
+pub has_none : (s : Rows) (fixed : List ℤ) → (HasPoint s.rows fixed (lows_of s.boxes) (highs_of s.boxes) → ⊥) → filter (begins fixed) (points s) ≡ []
 has_none s fixed never =
     filter_twice (begins fixed) (all_hold s.rows) (box_points s.boxes)
     ∙ none_all s.boxes (λ p. cond (all_hold s.rows p) (begins fixed p) false)
     (λ p i t. (let r = split_true (all_hold s.rows p) (begins fixed p) t in
     never (record { point = p; within = to_within s.boxes p i; holds = true_holds s.rows p r.0; begins = true_begins fixed p r.1 })))
+
+any_none : (test : List ℤ → Bool) (ps : List (List ℤ)) → filter test ps ≡ [] → list_any test ps ≡ false
+any_none test [] e = refl
+any_none test (p ∷ ps) e = elim (test p) as (λ b. cond b (p ∷ filter test ps) (filter test ps) ≡ [] → (b || list_any test ps) ≡ false) [
+  | true ↦ λ f. absurd cc
+  | false ↦ λ f. any_none test ps f
+] e
+
+any_some : (test : List ℤ → Bool) (ps : List (List ℤ)) → (filter test ps ≡ [] → ⊥) → list_any test ps ≡ true
+any_some test [] some = absurd (some refl)
+any_some test (p ∷ ps) some = elim (test p) as (λ b. (cond b (p ∷ filter test ps) (filter test ps) ≡ [] → ⊥) → (b || list_any test ps) ≡ true) [
+  | true ↦ λ f. refl
+  | false ↦ λ f. any_some test ps f
+] some
+
+same_answer : (b c : Bool) → (b ≡ true → c ≡ true) → (b ≡ false → c ≡ false) → b ≡ c
+same_answer true c if_true if_false = sym (if_true refl)
+same_answer false c if_true if_false = sym (if_false refl)
+
+pub has_point_is : (s : Rows) (fixed : List ℤ) (found : Bool) → length fixed ≤ length (lows_of s.boxes)
+    → (found ≡ true → HasPoint s.rows fixed (lows_of s.boxes) (highs_of s.boxes))
+    → (found ≡ false → HasPoint s.rows fixed (lows_of s.boxes) (highs_of s.boxes) → ⊥)
+    → found ≡ list_any (begins fixed) (points s)
+has_point_is s fixed found few if_found if_not =
+    same_answer found (list_any (begins fixed) (points s))
+    (λ t. any_some (begins fixed) (points s) (has_some s fixed few (if_found t)))
+    (λ t. any_none (begins fixed) (points s) (has_none s fixed (if_not t)))

@@ -4,7 +4,7 @@ use Rattle.std.proofs.lemmas.List.Elements.{All-nil}
 use Rattle.ch_affine.specs.Form.{Form}
 use Rattle.ch_affine.specs.Affine.{value}
 use Rattle.ch_poly.specs.Boxes.{Within}
-use Rattle.ch_poly.specs.Goals.{IsAtLeast, Reaches, Meets, Keeps, IsEmpty}
+use Rattle.ch_poly.specs.Goals.{IsAtLeast, Reaches, Meets, Keeps, IsEmpty, IsLeast}
 
 pub keeps_then : (P : List ℤ → Type 0) (a b c d e f : List ℤ) → Keeps P a b c d → Keeps P c d e f → Keeps P a b e f
 keeps_then P a b c d e f i j = record { kept = λ p w h. j.kept p (i.kept p w h) h }
@@ -51,3 +51,9 @@ module _ (rows tops : List Form) (bound : ℤ) where
 -- without tops
 pub no_tops : (rows : List Form) (bound : ℤ) (p : List ℤ) → Reaches (pos 0) rows p → Meets rows [] bound p
 no_tops rows bound p h = record { by_rows = h; by_tops = record { each = All-nil (λ f. bound ≤ℤ value f p) } }
+
+pub least_rows : (rows : List Form) (bound : ℤ) (lows highs p : List ℤ) → IsLeast (Meets rows [] bound) lows highs p → IsLeast (Reaches (pos 0) rows) lows highs p
+least_rows rows bound lows highs p m = record { within = m.within; holds = m.holds.by_rows; least = λ q w h. m.least q w (no_tops rows bound q h) }
+
+pub empty_rows : (rows : List Form) (bound : ℤ) (lows highs : List ℤ) → IsEmpty (Meets rows [] bound) lows highs → IsEmpty (Reaches (pos 0) rows) lows highs
+empty_rows rows bound lows highs e = record { none = λ p w h. e.none p w (no_tops rows bound p h) }
