@@ -1,9 +1,8 @@
 -- A row with a bound.
-use Rattle.std.proofs.Common.{◌≡◌, ℕ, ◌+◌, ◌<◌, ℤ, pos, ◌+ℤ◌, ◌*ℤ◌, ◌≤ℤ◌, ◌<ℤ◌, List, length, arith}
+use Rattle.std.proofs.Common.{◌≡◌, ℕ, ℤ, pos, ◌+ℤ◌, ◌<ℤ◌, List, length, arith}
 use Rattle.std.proofs.lemmas.Int.{ints}
 use Rattle.ch_affine.specs.Form.{Form}
-use Rattle.ch_affine.specs.Affine.{value}
-use Rattle.ch_poly.specs.Boxes.{at, greatest, Within}
+use Rattle.ch_poly.specs.Boxes.{greatest}
 use Rattle.ch_poly.specs.Goals.{IsAtLeast, Keeps, IsEmpty}
 use Rattle.ch_poly.specs.Cutting.{KeepsNear}
 use Rattle.ch_poly.proofs.Peaks.{dot_le, dot_spare}

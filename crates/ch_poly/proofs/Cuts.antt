@@ -1,8 +1,8 @@
 -- How far below its greatest value a term may be, and what that leaves of a range.
-use Rattle.std.proofs.Common.{◌≡◌, ℕ, zero, suc, ◌+◌, ◌*◌, ◌/◌, ◌<◌, ◌≤◌, ℤ, pos, negsuc, ◌+ℤ◌, ◌*ℤ◌, ◌-ℤ◌, ◌≤ℤ◌, ◌<ℤ◌, unsigned_abs, refl, sym, ap, ◌∙◌, subst, arith}
+use Rattle.std.proofs.Common.{◌≡◌, ℕ, zero, suc, ◌*◌, ◌/◌, ◌<◌, ◌≤◌, ℤ, pos, negsuc, ◌+ℤ◌, ◌*ℤ◌, ◌-ℤ◌, ◌≤ℤ◌, ◌<ℤ◌, unsigned_abs, ap, ◌∙◌, arith}
 use Rattle.std.proofs.lemmas.Int.{ints}
 use Rattle.std.proofs.lemmas.Nat.{le-div}
-use Rattle.std.proofs.Math.IntN.{*ℤ_comm, suc_ℤ-*ℤ, suc_ℤ, neg_ℤ, zero-*ℤ, +ℤ_idr, +ℤ_assoc, +ℤ-suc_ℤ, pos-*ℤ-pos, negsuc-*ℤ-pos}
+use Rattle.std.proofs.Math.IntN.{neg_ℤ, pos-*ℤ-pos, negsuc-*ℤ-pos}
 use Rattle.ch_affine.proofs.Integers.{times_plus}
 use Rattle.ch_poly.specs.Boxes.{peak}
 

@@ -1,6 +1,6 @@
 -- The first of a system's points is the least.
-use Rattle.std.proofs.Common.{◌≡◌, ℕ, zero, suc, ◌+◌, ◌^◌, ◌<◌, ◌≤◌, ◌⊎◌, inl, inr, ℤ, pos, negsuc, ◌+ℤ◌, ◌-ℤ◌, ◌≤ℤ◌, ◌<ℤ◌, unsigned_abs, Bool, true, false, cond, List, [], ◌∷◌, ◌++◌, length, map, Option, Some, None, refl, sym, ap, ◌∙◌, subst, ⊎_elim, get_or, int_le, arith}
-use Rattle.std.specs.List.{flat_map, filter, list_all, All}
+use Rattle.std.proofs.Common.{◌≡◌, ℕ, zero, suc, ◌^◌, ◌<◌, ◌⊎◌, inl, inr, ℤ, pos, negsuc, ◌+ℤ◌, ◌-ℤ◌, ◌≤ℤ◌, ◌<ℤ◌, Bool, true, false, cond, List, [], ◌∷◌, ◌++◌, length, map, Some, refl, sym, ap, ◌∙◌, subst, ⊎_elim, get_or, int_le, arith}
+use Rattle.std.specs.List.{flat_map, filter, All}
 use Rattle.std.proofs.lemmas.Int.{ints, by_lt_z}
 use Rattle.std.proofs.lemmas.List.Elements.{filter-append, All-map}
 use Rattle.std.proofs.lemmas.List.{length-map}
@@ -9,7 +9,7 @@ use Rattle.ch_affine.specs.Form.{Form}
 use Rattle.ch_affine.specs.Affine.{value, IsAtMost}
 use Rattle.ch_affine.specs.Rows.{Rows, IsSystem, IsBox, all_hold}
 use Rattle.std.proofs.lemmas.List.Sums.{AllPass-from_list_all, list_all-from_AllPass}
-use Rattle.ch_poly.specs.Points.{upwards, numbers, natural, box_points, first, points}
+use Rattle.ch_poly.specs.Points.{upwards, natural, box_points, first, points}
 use Rattle.ch_poly.specs.Boxes.{at, Within, IsBoxed}
 use Rattle.ch_poly.specs.Goals.{NotAfter, Reaches, IsLeast, IsEmpty}
 

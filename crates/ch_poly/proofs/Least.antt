@@ -1,15 +1,13 @@
 -- What a search over the first open variable keeps.
-use Rattle.std.proofs.Common.{◌≡◌, ℕ, zero, suc, ◌+◌, ◌-◌, ◌*◌, ◌<◌, ◌≤◌, ◌^◌, ◌⊎◌, inl, inr, ℤ, pos, negsuc, ◌+ℤ◌, ◌*ℤ◌, ◌-ℤ◌, ◌≤ℤ◌, ◌<ℤ◌, unsigned_abs, List, [], ◌∷◌, length, get_or, set, refl, sym, ap, ◌∙◌, subst, arith}
+use Rattle.std.proofs.Common.{◌≡◌, ℕ, zero, suc, ◌+◌, ◌-◌, ◌*◌, ◌<◌, ◌≤◌, inl, inr, ℤ, pos, ◌+ℤ◌, ◌≤ℤ◌, ◌<ℤ◌, List, [], ◌∷◌, length, set, refl, sym, ap, ◌∙◌, subst, arith}
 use Rattle.std.proofs.lemmas.Int.{ints, by_lt_z}
-use Rattle.std.proofs.lemmas.Bool.{cases_eq, cases_lt}
-use Rattle.std.proofs.lemmas.List.{length-set, get_or-set_same, get_or-set_other, set-get_or, ext_get_or}
+use Rattle.std.proofs.lemmas.Bool.{cases_lt}
+use Rattle.std.proofs.lemmas.List.{length-set, get_or-set_same, set-get_or, ext_get_or}
 use Rattle.std.proofs.Math.Nat.{mul-le-mul_left}
-use Rattle.ch_affine.specs.Form.{Form}
-use Rattle.ch_affine.specs.Affine.{IsAtMost}
 use Rattle.ch_poly.specs.Boxes.{at, widths, IsBoxed, Within, Inside}
 use Rattle.ch_poly.specs.Goals.{Keeps, IsEmpty, IsLeast, NotAfter}
 use Rattle.ch_poly.proofs.Meeting.{keeps_then}
-use Rattle.ch_poly.proofs.Ranges.{at_set, low_set, high_set, boxed_set, inside_set, inside_then, widths_fewer}
+use Rattle.ch_poly.proofs.Ranges.{at_set, high_set, boxed_set, inside_set, inside_then, widths_fewer}
 
 pub not_after_at : (p q : List ℤ) (k : ℕ) → length p ≡ length q → k < length p → ((j : ℕ) → j < k → at p j ≡ at q j) → at p k <ℤ at q k → NotAfter p q
 not_after_at [] q k e lt same less = tt

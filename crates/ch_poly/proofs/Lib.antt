@@ -1,6 +1,7 @@
 pub mod Bounds
 pub mod Contradicts
 pub mod Cuts
+pub mod Extreme
 pub mod Firsts
 pub mod Fixes
 pub mod Least

@@ -1,9 +1,8 @@
 -- What one row says of a box, and what all rows and tops together do.
-use Rattle.std.proofs.Common.{◌≡◌, ℕ, ◌<◌, ℤ, pos, ◌≤ℤ◌, List, [], ◌∷◌, length, get_or, sym, subst, arith}
+use Rattle.std.proofs.Common.{◌≡◌, ℕ, ◌<◌, ℤ, pos, ◌≤ℤ◌, List, [], length, get_or, sym, subst}
 use Rattle.std.proofs.lemmas.List.Elements.{All-nil}
 use Rattle.ch_affine.specs.Form.{Form}
 use Rattle.ch_affine.specs.Affine.{value}
-use Rattle.ch_poly.specs.Boxes.{Within}
 use Rattle.ch_poly.specs.Goals.{IsAtLeast, Reaches, Meets, Keeps, IsEmpty, IsLeast}
 
 pub keeps_then : (P : List ℤ → Type 0) (a b c d e f : List ℤ) → Keeps P a b c d → Keeps P c d e f → Keeps P a b e f

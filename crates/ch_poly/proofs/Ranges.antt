@@ -1,14 +1,13 @@
 -- A box after one of its ranges is another.
-use Rattle.std.proofs.Common.{◌≡◌, ℕ, zero, suc, ◌+◌, ◌*◌, ◌<◌, ◌≤◌, ◌^◌, ◌⊎◌, inl, inr, ℤ, pos, negsuc, ◌+ℤ◌, ◌*ℤ◌, ◌-ℤ◌, ◌≤ℤ◌, ◌<ℤ◌, unsigned_abs, List, [], ◌∷◌, length, get_or, set, refl, sym, ap, ◌∙◌, subst, arith}
+use Rattle.std.proofs.Common.{◌≡◌, ℕ, zero, suc, ◌+◌, ◌<◌, ◌≤◌, ◌^◌, ◌⊎◌, inl, inr, ℤ, pos, ◌+ℤ◌, ◌*ℤ◌, ◌-ℤ◌, ◌≤ℤ◌, unsigned_abs, List, [], ◌∷◌, length, set, refl, sym, ap, ◌∙◌, subst, arith}
 use Rattle.std.proofs.lemmas.Int.{ints}
 use Rattle.std.proofs.lemmas.Bool.{cases_eq}
 use Rattle.std.proofs.lemmas.List.{length-set, get_or-set_same, get_or-set_other}
 use Rattle.std.proofs.lemmas.List.Elements.{All-set}
-use Rattle.ch_affine.specs.Form.{Form}
-use Rattle.ch_affine.specs.Affine.{dot, value, IsAtMost}
+use Rattle.ch_affine.specs.Affine.{IsAtMost}
 use Rattle.ch_poly.specs.Boxes.{peak, at, widths, IsBoxed, Within, Inside}
 use Rattle.ch_poly.specs.Cutting.{KeepsNear, KeepsNumber, IsSameBut, IsSameFrom}
-use Rattle.ch_poly.proofs.Peaks.{InEach, dot_le, dot_spare}
+use Rattle.ch_poly.proofs.Peaks.{InEach}
 
 pub at_set : (xs : List ℤ) (k : ℕ) (v : ℤ) (j : ℕ) → k < length xs → ((j ≡ k) × (at (set xs k v) j ≡ v)) ⊎ ((j ≡ k → ⊥) × (at (set xs k v) j ≡ at xs j))
 at_set xs k v j lt = elim (cases_eq j k) [

@@ -1,5 +1,5 @@
 -- A box whose first variables are fixed, and the room of a search.
-use Rattle.std.specs.Prelude.{ℕ, ℤ, pos, ◌≡◌, ◌≤◌, ◌<◌, ◌*◌, ◌≤ℤ◌, List, length}
+use Rattle.std.specs.Prelude.{ℕ, ℤ, pos, ◌≡◌, ◌≤◌, ◌<◌, ◌≤ℤ◌, List, length}
 use Rattle.ch_affine.specs.Form.{Form}
 use Rattle.ch_poly.specs.Boxes.{at, Within}
 use Rattle.ch_poly.specs.Goals.{Reaches}

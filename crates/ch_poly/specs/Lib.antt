@@ -1,5 +1,6 @@
 pub mod Boxes
 pub mod Cutting
+pub mod Extremes
 pub mod Fixed
 pub mod Goals
 pub mod Opposed

@@ -39,10 +39,6 @@ begins [] p = true
 begins (x ∷ xs) [] = false
 begins (x ∷ xs) (y ∷ p) = int_eq x y && begins xs p
 
--- the points whose first values are these
-abbrev pub points_from : Rows → List ℤ → List (List ℤ)
-points_from s fixed = filter (begins fixed) (points s)
-
 -- the least and the greatest of some numbers
 abbrev pub least_of : List ℤ → Option ℤ
 least_of [] = None

@@ -1,4 +1,4 @@
-use Rattle.std.proofs.Common.{◌≡◌, ◌≤◌, ◌<◌, ◌^◌, ◌/◌, ◌*◌, ◌≤ℤ◌, ◌<ℤ◌, ◌+ℤ◌, ℤ, pos, unsigned_abs, arith, rules, sym, SFits, w64}
+use Rattle.std.proofs.Common.{◌<ℤ◌, pos, arith, rules, SFits, w64}
 use Rattle.std.proofs.lemmas.Int.{ints, to_z-of_z}
 use Rattle.ch_poly.proofs.Cuts.{cut_low, cut_high, some_size}
 use Rattle.ch_poly.proofs.cut.cut.Goals as goal

@@ -1,8 +1,6 @@
-use Rattle.std.proofs.Common.{◌≡◌, ◌≤◌, ◌<◌, ◌^◌, ◌≤ℤ◌, ◌-ℤ◌, ℤ, pos, unsigned_abs, length, arith, rules, SFits, w64, get_or, set}
+use Rattle.std.proofs.Common.{◌≤◌, ◌<◌, ◌^◌, pos, unsigned_abs, length, arith, SFits, w64, get_or}
 use Rattle.std.proofs.lemmas.Int.{ints, to_z-of_z}
 use Rattle.std.proofs.lemmas.Grind.{common_steps}
-use Rattle.ch_poly.specs.Boxes.{at}
-use Rattle.ch_poly.specs.Cutting.{KeepsNumber}
 use Rattle.ch_poly.proofs.Ranges.{inside_then, same_but_then, near_step}
 use Rattle.ch_poly.proofs.cut.cut_all.Goals as goal
 use Rattle.ch_poly.proofs.cut.cut_all.Goals.{then-cut_at, else-cut_at}

@@ -1,4 +1,4 @@
-use Rattle.std.proofs.Common.{◌≡◌, ◌≤◌, ◌<◌, IsTrue}
+use Rattle.std.proofs.Common.{◌≤◌, ◌<◌, IsTrue}
 use Rattle.ch_poly.specs.Boxes.{IsBoxed, Inside, widths}
 use Rattle.ch_poly.specs.Cutting.{KeepsNear, IsSameFrom}
 use Rattle.ch_poly.proofs.cut.cut_all.Given as goal

@@ -1,8 +1,7 @@
-use Rattle.std.proofs.Common.{◌≡◌, ◌≤◌, ◌<◌, ◌^◌, ◌≤ℤ◌, ◌-ℤ◌, ℤ, pos, unsigned_abs, length, arith, rules, SFits, w64, get_or, set}
+use Rattle.std.proofs.Common.{◌≤◌, ◌<◌, ◌^◌, pos, unsigned_abs, length, arith, rules, SFits, w64, get_or}
 use Rattle.std.proofs.lemmas.Int.{ints, to_z-of_z}
 use Rattle.std.proofs.lemmas.List.{get_or-set_same}
 use Rattle.ch_poly.specs.Boxes.{at}
-use Rattle.ch_poly.specs.Cutting.{KeepsNumber}
 use Rattle.ch_poly.proofs.Ranges.{boxed_set, inside_set, widths_at_most, widths_fewer, same_but_set}
 use Rattle.ch_poly.proofs.cut.cut_at.Goals as goal
 

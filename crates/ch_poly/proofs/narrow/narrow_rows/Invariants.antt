@@ -1,4 +1,4 @@
-use Rattle.std.proofs.Common.{◌≤◌, ◌<◌, IsTrue, take}
+use Rattle.std.proofs.Common.{◌≤◌, ◌<◌, IsTrue}
 use Rattle.ch_poly.specs.Boxes.{IsBoxed, Inside, widths}
 use Rattle.ch_poly.specs.Goals.{Reaches, Keeps}
 use Rattle.ch_poly.proofs.narrow.narrow_rows.Given as goal

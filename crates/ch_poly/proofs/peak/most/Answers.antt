@@ -1,4 +1,4 @@
-use Rattle.std.proofs.Common.{◌≡◌, ◌*ℤ◌, ◌+ℤ◌, ◌≤◌, ◌<◌, ◌^◌, pos, ℤ, get_or, length, unsigned_abs, rules, arith, SFits, to_z, of_z, w64}
+use Rattle.std.proofs.Common.{◌≡◌, ◌≤◌, ◌^◌, pos, get_or, unsigned_abs, rules, arith, SFits, w64}
 use Rattle.std.specs.Int.{w128}
 use Rattle.std.proofs.lemmas.Int.{ints, to_z-of_z}
 use Rattle.ch_poly.specs.Boxes.{peak, at}

@@ -1,7 +1,7 @@
-use Rattle.std.proofs.Common.{◌≡◌, ◌≤◌, ◌<◌, ◌*◌, ℕ, [], length, map, sym, refl, ap, ◌∙◌, arith, rules, IsTrue, true}
+use Rattle.std.proofs.Common.{◌≤◌, length, ap, ◌∙◌, arith}
 use Rattle.std.proofs.lemmas.List.{length-map}
 use Rattle.ch_affine.specs.Rows.{Rows, IsSystem}
-use Rattle.ch_poly.proofs.Firsts.{lows_of, highs_of, boxes_boxed}
+use Rattle.ch_poly.proofs.Firsts.{lows_of, boxes_boxed}
 use Rattle.ch_poly.proofs.Fixes.{has_point_is}
 use Rattle.ch_poly.proofs.room.has_point.Goals as goal
 

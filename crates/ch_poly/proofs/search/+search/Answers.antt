@@ -1,8 +1,8 @@
-use Rattle.std.proofs.Common.{ℕ, ◌≡◌, ◌≤◌, ◌<◌, ◌+◌, ◌*◌, ◌-◌, ◌^◌, ◌+ℤ◌, ℤ, pos, unsigned_abs, length, List, get_or, set, arith, rules, SFits, w64, subst, sym, refl, ap, ◌∙◌}
+use Rattle.std.proofs.Common.{◌≡◌, ◌≤◌, ◌<◌, ◌^◌, ◌+ℤ◌, pos, unsigned_abs, length, get_or, set, arith, rules, SFits, w64, sym, refl, ap, ◌∙◌}
 use Rattle.std.proofs.lemmas.Int.{ints, to_z-of_z}
-use Rattle.ch_poly.specs.Boxes.{at, IsBoxed, Inside}
-use Rattle.ch_poly.specs.Goals.{Meets, Keeps, IsLeast, IsEmpty}
-use Rattle.ch_poly.proofs.Least.{Reached, reached_then, prefix_fixed, least_only, empty_only, room_left, lowest_boxed, lowest_fixed, least_here, raised_boxed, raised_inside, raised_fewer, raised_keeps}
+use Rattle.ch_poly.specs.Boxes.{at}
+use Rattle.ch_poly.specs.Goals.{Meets, IsLeast, IsEmpty}
+use Rattle.ch_poly.proofs.Least.{reached_then, prefix_fixed, least_only, empty_only, room_left, lowest_boxed, lowest_fixed, least_here, raised_boxed, raised_inside, raised_fewer, raised_keeps}
 use Rattle.ch_poly.proofs.Ranges.{inside_then}
 use Rattle.ch_poly.proofs.search.+search.Goals as goal
 
@@ -46,16 +46,16 @@ search-requires t c =
         (λ k d lt. c.requires.same_rows k d lt ∙ sym same),
         (
           (λ k d lt. c.requires.same_tops k d lt ∙ sym same),
-        (
-          (rw (e, f) (lowest_boxed _ _ _ r.boxed in_lows)),
           (
-            omega (arith, same),
+            (rw (e, f) (lowest_boxed _ _ _ r.boxed in_lows)),
             (
-              (λ j lj. rw (e, f) (lowest_fixed _ _ _ j in_highs all lj)),
-              (rw same (omega (arith, room, c.split_at_mut-low_room.ensures.back_len, c.split_at_mut-high_room.ensures.back_len))),
+              omega (arith, same),
+              (
+                (λ j lj. rw (e, f) (lowest_fixed _ _ _ j in_highs all lj)),
+                (rw same (omega (arith, room, c.split_at_mut-low_room.ensures.back_len, c.split_at_mut-high_room.ensures.back_len))),
+              ),
             ),
           ),
-        ),
         ),
       ),
     )

@@ -1,8 +1,7 @@
-use Rattle.std.proofs.Common.{◌≡◌, ◌≤◌, ◌<◌, length, ℤ, pos, [], map, List, Some, None, ap, sym, refl, ◌∙◌, arith, rules}
+use Rattle.std.proofs.Common.{◌≡◌, length, ℤ, pos, [], List, Some, ap, sym, refl, ◌∙◌, arith}
 use Rattle.std.proofs.lemmas.List.{take_at}
-use Rattle.ch_affine.specs.Form.{Form}
 use Rattle.ch_affine.specs.Rows.{Rows, IsSystem}
-use Rattle.ch_poly.specs.Points.{points, first}
+use Rattle.ch_poly.specs.Points.{first}
 use Rattle.ch_poly.specs.Goals.{Meets, IsLeast, IsEmpty}
 use Rattle.ch_poly.specs.Opposed.{IsNever}
 use Rattle.ch_poly.proofs.Meeting.{least_rows, empty_rows}
