@@ -12,8 +12,6 @@ mod peak;
 mod room;
 mod search;
 mod solve;
-#[cfg(test)]
-mod tests;
 
 pub use extremes::{greatest_value, least_value};
 pub use room::{Room, has_point};
