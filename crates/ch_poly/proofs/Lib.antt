@@ -1,0 +1,10 @@
+pub mod Bounds
+pub mod Contradicts
+pub mod Cuts
+pub mod Extreme
+pub mod Firsts
+pub mod Fixes
+pub mod Least
+pub mod Meeting
+pub mod Peaks
+pub mod Ranges
