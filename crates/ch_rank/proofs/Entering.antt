@@ -1,5 +1,5 @@
 -- One more entry.
-use Rattle.std.proofs.Common.{◌≡◌, ◌≢◌, ℕ, ◌+◌, ◌-◌, ◌*◌, ◌<◌, ◌≤◌, Bool, true, false, cond, eqb, nat_lt, List, [], ◌∷◌, ◌++◌, length, replicate, zero, suc, set, get_or, Option, Some, None, refl, sym, ap, ◌∙◌, subst, arith, ◌⊎◌, inl, inr, is_some, not, ◌&&◌}
+use Rattle.std.proofs.Common.{◌≡◌, ◌≢◌, ℕ, ◌+◌, ◌-◌, ◌*◌, ◌<◌, ◌≤◌, Bool, true, false, cond, eqb, nat_lt, List, [], ◌∷◌, ◌++◌, length, map, replicate, zero, suc, set, get_or, Option, Some, None, refl, sym, ap, ◌∙◌, subst, arith, ◌⊎◌, inl, inr, is_some, not, ◌&&◌, ◌||◌}
 use Rattle.std.proofs.lemmas.Bool.Decides.{nat_tests}
 use Rattle.std.proofs.lemmas.List.{get_or-set_same, get_or-set_other, get_or_default}
 use Rattle.std.proofs.Math.ListN.{length-set}
@@ -9,14 +9,18 @@ use Rattle.ch_rank.specs.declared.outcome.Costed.{Costed}
 use Rattle.ch_rank.specs.Leads.{Leads}
 use Rattle.ch_rank.specs.Leads.Leads.{stay, round}
 use Rattle.ch_rank.specs.Board.{IsRound, known_by}
-use Rattle.ch_rank.specs.Entries.{known, IsSearch, Searched, played, is_pending}
+use Rattle.ch_rank.specs.Entries.{known, IsSearch, AreLegal, Searched, played, is_pending}
 use Rattle.ch_grid.specs.declared.param.Param.{Param}
 use Rattle.ch_grid.specs.Grid.{sizes}
 use Rattle.ch_rank.specs.Bound.{bound}
 use Rattle.ch_rank.specs.Ranks.{better}
 use Rattle.ch_rank.specs.Search.{Game, Known, advance, opening, play, go, decided, search_on}
 use Rattle.ch_rank.proofs.Ranking.{version_more}
-use Rattle.ch_rank.proofs.Rounds.{round_on, sizes_on}
+use Rattle.std.specs.List.{All, IsDistinct, AllByRecursion, list_any}
+use Rattle.std.proofs.lemmas.List.Elements.{All-head, All-tail, All-append, All-cons, All-nil}
+use Rattle.std.proofs.lemmas.Map.Steps.{length-le_from_distinct_below}
+use Rattle.ch_rank.proofs.Lists.{all_more}
+use Rattle.ch_rank.proofs.Rounds.{round_on, sizes_on, points_on}
 use Rattle.ch_rank.proofs.Replay.{Knows, leads_more, leads_on, leads_to_play, settles, ends_alike}
 
 rounds_along : (most : ℕ) (k : Known) (g h : Game) → Leads most k g h → IsRound g → IsRound h
@@ -99,9 +103,64 @@ outcome_now os es c t are lt none (inl e) =
     subst (λ (u : ℕ). known_by (set os c.trial (Some c.outcome)) u ≡ known (es ++ c ∷ []) u) (sym e) (s ∙ sym n)
 outcome_now os es c t are lt none (inr e) = get_or-set_other os c.trial t (Some c.outcome) None e ∙ (are t ∙ sym (known_other es c t (differ c.trial t e)))
 
+points_along : (most : ℕ) (k : Known) (g h : Game) → Leads most k g h → length g.points ≤ length h.points
+points_along most k _ _ (stay g) = omega arith
+points_along most k _ _ (round g h j e l) = let p = points_on most k g h e in let r = points_along most k h j l in omega arith
+
+-- ---- legal entries
+
+none_pair : (b : Bool) (x : Option Outcome) (o : Outcome) → cond b (Some o) x ≡ None → (b ≡ false) × (x ≡ None)
+none_pair true x o e = absurd (cc)
+none_pair false x o e = (refl, e)
+
+trial_pushed : (t u : ℕ) (es : List Costed) (c : Costed) → AllByRecursion (λ v. eqb t v ≡ false) (map (λ e. e.trial) es) → eqb t c.trial ≡ false → AllByRecursion (λ v. eqb t v ≡ false) (map (λ e. e.trial) (es ++ c ∷ []))
+trial_pushed t u [] c a e = (e, tt)
+trial_pushed t u (d ∷ es) c a e = (a.0, trial_pushed t u es c a.1 e)
+
+trials_apart : (es : List Costed) (c : Costed) → IsDistinct eqb (map (λ e. e.trial) es) → known es c.trial ≡ None → IsDistinct eqb (map (λ e. e.trial) (es ++ c ∷ []))
+unfolding IsDistinct
+trials_apart [] c d e = (tt, tt)
+trials_apart (f ∷ es) c d e = let n = none_pair (eqb f.trial c.trial) (known es c.trial) f.outcome e in (trial_pushed f.trial c.trial es c d.0 n.0, trials_apart es c d.1 n.1)
+
+legal_more : (es : List Costed) (c : Costed) (m n : ℕ) → AreLegal m es → c.trial < m → m ≤ n → known es c.trial ≡ None → AreLegal n (es ++ c ∷ [])
+legal_more es c m n l h le none = record {
+  here = All-append (λ e. (e.trial < n) × (known (es ++ c ∷ []) e.trial ≡ Some e.outcome)) es (c ∷ [])
+      (all_more (λ e. (e.trial < m) × (known es e.trial ≡ Some e.outcome)) (λ e. (e.trial < n) × (known (es ++ c ∷ []) e.trial ≡ Some e.outcome)) es (λ e x. (omega (arith, x.0), known_more es c e.trial e.outcome x.1)) l.here)
+      (All-cons (λ e. (e.trial < n) × (known (es ++ c ∷ []) e.trial ≡ Some e.outcome)) c [] (omega arith, known_new es c c.trial none ∙ ap (λ b. cond b (Some c.outcome) None) (same_true c.trial)) (All-nil (λ e. (e.trial < n) × (known (es ++ c ∷ []) e.trial ≡ Some e.outcome))));
+  apart = trials_apart es c l.apart none;
+}
+
+none_distinct : IsDistinct eqb []
+unfolding IsDistinct
+none_distinct = tt
+
+pub none_legal : (n : ℕ) → AreLegal n []
+none_legal n = record { here = All-nil (λ e. (e.trial < n) × (known [] e.trial ≡ Some e.outcome)); apart = none_distinct }
+
+among : (b l : Bool) (q t n : ℕ) → (b || l) ≡ true → (b ≡ true → q ≡ t) → t < n → (l ≡ true → q < n) → q < n
+among true l q t n h f lt g = let e = f refl in omega arith
+among false l q t n h f lt g = g h
+
+equal_of : (x y : ℕ) → eqb x y ≡ true → x ≡ y
+equal_of x y h = grind (arith, nat_tests)
+
+trials_below : (es : List Costed) (n : ℕ) → All (λ e. e.trial < n) es → (q : ℕ) → list_any (eqb q) (map (λ e. e.trial) es) ≡ true → q < n
+trials_below [] n a q h = absurd (cc)
+trials_below (e ∷ es) n a q h = among (eqb q e.trial) (list_any (eqb q) (map (λ e. e.trial) es)) q e.trial n h (equal_of q e.trial) (All-head (λ x. x.trial < n) e es a) (trials_below es n (All-tail (λ x. x.trial < n) e es a) q)
+
+length_trials : (es : List Costed) → length (map (λ e. e.trial) es) ≡ length es
+length_trials [] = refl
+length_trials (e ∷ es) = ap (λ n. suc n) (length_trials es)
+
+-- there are no more entries than trials
+pub few_entries : (es : List Costed) (n : ℕ) → AreLegal n es → length es ≤ n
+few_entries es n l =
+    let d = length-le_from_distinct_below (map (λ e. e.trial) es) n l.apart (trials_below es n (all_more (λ e. (e.trial < n) × (known es e.trial ≡ Some e.outcome)) (λ e. e.trial < n) es (λ e x. x.0) l.here)) in
+    omega (arith, d, length_trials es)
+
 pub entered : (ps : List Param) (g h : Game) (os : List (Option Outcome)) (es : List Costed) (b b' : Option Costed) (most : ℕ) (c : Costed) → IsSearch ps g os es b most → c.trial < length os → known_by os c.trial ≡ None → length h.points ≤ count h.sizes →
-    b' ≡ better b c → Leads most (known_by (set os c.trial (Some c.outcome))) g h → advance most (known_by (set os c.trial (Some c.outcome))) h ≡ None → IsSearch ps h (set os c.trial (Some c.outcome)) (es ++ c ∷ []) b' most
-entered ps g h os es b b' most c s lt none fits best l over =
+    c.trial < length g.points → b' ≡ better b c → Leads most (known_by (set os c.trial (Some c.outcome))) g h → advance most (known_by (set os c.trial (Some c.outcome))) h ≡ None → IsSearch ps h (set os c.trial (Some c.outcome)) (es ++ c ∷ []) b' most
+entered ps g h os es b b' most c s lt none fits here best l over =
     let ns : List ℕ = sizes ps in
     let k : Known = known es in
     let k' : Known = known (es ++ c ∷ []) in
@@ -117,6 +176,7 @@ entered ps g h os es b b' most c s lt none fits best l over =
       outcomes_are = are;
       long = length-set os c.trial (Some c.outcome) ∙ (s.long ∙ ap count (sym same));
       within = fits;
+      legal = legal_more es c (length g.points) (length h.points) s.legal here (points_along most k' g h l') (sym (s.outcomes_are c.trial) ∙ none);
       best_is = best ∙ (ap (λ (o : Option Costed). better o c) s.best_is ∙ version_more es c);
       most_is = s.most_is;
       small = s.small;
@@ -140,7 +200,7 @@ entered_now ps g h os os' es es' b b' most t o read s here r n more best new fit
     let l' : Leads most (known_by (set os t (Some o))) g h = subst (λ (v : List (Option Outcome)). Leads most (known_by v) g h) new l in
     let over' : advance most (known_by (set os t (Some o))) h ≡ None = subst (λ (v : List (Option Outcome)). advance most (known_by v) h ≡ None) new over in
     record {
-      search = subst (λ (v : List Costed). IsSearch ps h (set os t (Some o)) v b' most) (sym more) (entered ps g h os es b b' most (record { trial = t; outcome = o }) s lt none fits best l' over');
+      search = subst (λ (v : List Costed). IsSearch ps h (set os t (Some o)) v b' most) (sym more) (entered ps g h os es b b' most (record { trial = t; outcome = o }) s lt none fits here best l' over');
       here = here;
       none = sym (s.outcomes_are t) ∙ none;
     }

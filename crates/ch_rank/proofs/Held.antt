@@ -15,7 +15,7 @@ use Rattle.ch_rank.proofs.Asking.{Keeps, keeps_self, keeps_one, keeps_on}
 
 -- ---- the points of the numbers
 
-mark_at : (t : ℕ) (qs : List Point) (p : Point) → 0 < mark_from t qs p → (t < mark_from t qs p) × (mark_from t qs p - suc t < length qs) × (get_or qs (mark_from t qs p - suc t) [] ≡ p)
+pub mark_at : (t : ℕ) (qs : List Point) (p : Point) → 0 < mark_from t qs p → (t < mark_from t qs p) × (mark_from t qs p - suc t < length qs) × (get_or qs (mark_from t qs p - suc t) [] ≡ p)
 mark_at t [] p h = absurd (omega arith)
 mark_at t (q ∷ qs) p h = case (same_point q p) refl h (mark_at (suc t) qs p)
   where

@@ -6,7 +6,7 @@ pub mod Rowing
 pub mod Asking
 pub mod Best
 pub mod Ranges
-pub mod Rows13
+pub mod FlatRow
 pub mod Rounds
 pub mod Entering
 pub mod Least
@@ -24,5 +24,6 @@ pub mod Reaching
 pub mod Deciding
 pub mod Ending
 pub mod Waiting
+pub mod Finding
 pub mod Held
-pub mod Products
+pub mod TiledProduct

@@ -20,7 +20,7 @@ use Rattle.ch_rank.specs.Search.{Game, opening}
 use Rattle.ch_rank.specs.Entries.{IsSearch}
 use Rattle.ch_rank.specs.declared.outcome.Outcome.{Outcome}
 use Rattle.ch_rank.specs.declared.outcome.Costed.{Costed}
-use Rattle.ch_rank.proofs.Entering.{opening_waits, unknown}
+use Rattle.ch_rank.proofs.Entering.{opening_waits, unknown, none_legal}
 use Rattle.ch_grid.specs.Grid.{is_within}
 use Rattle.ch_grid.proofs.Sizes.{within_facts}
 use Rattle.ch_grid.proofs.PointNumbers.{number_below}
@@ -125,6 +125,7 @@ started ps items g os es slice most n items_are game none_yet no_entries points 
       outcomes_are = unknown n;
       long = length_none n ∙ (points ∙ ap count (sym z));
       within = fits;
+      legal = none_legal (length g.points);
       best_is = refl;
       most_is = most_is ∙ ap bound (slice_is ∙ z);
       small = small;

@@ -9,6 +9,7 @@ use Rattle.ch_rank.specs.Moves.{Point, near}
 use Rattle.ch_rank.specs.Bound.{greatest, halvings}
 use Rattle.ch_rank.specs.Search.{Game, below, best, advance, opening, point_at}
 use Rattle.ch_rank.specs.Leads.{Leads}
+use Rattle.ch_rank.specs.Ranks.{versions, last_of, least_of}
 use Rattle.ch_rank.specs.Entries.{Searched, played, known, most_steps}
 
 -- the least outcome of a game's simplex
@@ -33,9 +34,11 @@ pub record IsBeaten (s : Searched) (o : Outcome) (p : Point) : Type 0 where
   pub entered : known s.entries trial ≡ Some outcome
   pub not_below : below outcome o ≡ false
 
--- no entry is below this trial's, and each neighbour of its point in the grid has one
+-- no entry is below this trial's, the best entry has the same outcome (a refused point is no best entry),
+-- and each neighbour of its point in the grid has an entry that is not below it
 pub record IsLeast (s : Searched) (t : ℕ) : Type 0 where
   pub outcome : Outcome
   pub entered : known s.entries t ≡ Some outcome
   pub entries : All (λ e. below e.outcome outcome ≡ false) s.entries
+  pub best : least_of (last_of (versions s.entries)) ≡ outcome
   pub neighbours : All (IsBeaten s outcome) (near (sizes s.grid) (point_at (played s) t))

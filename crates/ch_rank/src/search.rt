@@ -1,5 +1,9 @@
-ghost use Rattle.std.specs.Prelude.{◌≡◌, ◌+◌, ◌-◌, ◌<◌, ◌≤◌, ◌++◌, ◌∷◌, [], OnOk, OnErr, IfOk, IfErr, IfSome, length, option_map, slice_index, slice_index_or, slice_get, true, false};
-ghost use Rattle.ch_rank.specs.Entries.{is_pending, pending, played, known};
+ghost use Rattle.std.specs.Prelude.{◌≡◌, ◌≢◌, ◌↔◌, IsSomeAnd, ◌+◌, ◌-◌, ◌<◌, ◌≤◌, ◌++◌, ◌∷◌, [], OnOk, OnErr, IfOk, IfErr, IfSome, length, option_map, slice_index, slice_index_or, slice_get, true, false};
+ghost use Rattle.ch_grid.specs.Grid.{sizes};
+ghost use Rattle.ch_grid.specs.Points.{count};
+ghost use Rattle.ch_rank.specs.Course.{Falls, IsLeast};
+ghost use Rattle.ch_rank.specs.Entries.{is_pending, most_steps, pending, played, known};
+ghost use Rattle.ch_rank.specs.declared.phase.Phase.TheVariants.{Converged};
 ghost use Rattle.ch_rank.specs.Ranks.{ranks, rank_of, versions, last_of, better};
 ghost use Rattle.ch_rank.specs.declared.outcome.Costed.{Costed};
 
@@ -7,7 +11,7 @@ use crate::bound::bound;
 use crate::game::Game;
 use crate::outcome::{Costed, Outcome};
 use crate::phase::Phase;
-use crate::ranks::{Rank, ranked};
+use crate::ranks::{Rank, rank_in};
 use ch_grid::{Grid, Param};
 use std::alloc::{AllocError, Global};
 use std::marker::Model;
@@ -73,6 +77,8 @@ impl Search {
         requires { 0 < self.old.spare }
         ensures ok { OnOk result ((is_pending self.old trial ≡ true) × (self.new ≡ record self.old { entries = self.old.entries ++ record { trial = trial; outcome = outcome } ∷ []; spare = self.old.spare - 1 })) }
         ensures err { IfErr result (λ e. (e ≡ RankError.NotPending trial) × (is_pending self.old trial ≡ false) × (self.new ≡ self.old)) }
+        // There are no more entries than points of the grid.
+        ensures few { length self.new.entries ≤ count (sizes self.new.grid) }
     {
         if trial >= self.game.len() || self.outcomes[trial as usize].is_some() {
             return Err(RankError::NotPending { trial });
@@ -85,9 +91,10 @@ impl Search {
         Ok(())
     }
 
-    /// How many trials are pending.
+    /// How many trials are pending. There are none exactly where the search has ended.
     pub fn pending(&self) -> u32
-        ensures { result ≡ length (pending self.now) }
+        ensures value { result ≡ length (pending self.now) }
+        ensures end { (result ≡ 0) ↔ ((played self.now).phase ≡ Converged) }
     {
         let mut pending = 0;
         for trial in self.game.first_waiting()..self.game.len() {
@@ -127,14 +134,11 @@ impl Search {
 
     /// The place at rank `r`, counted from 0: the places of the last fully costed simplex in order of outcome, then of place.
     pub fn rank_at(&self, r: u32) -> Option<Rank>
-        ensures { result ≡ option_map rank_of (slice_get (ranks (played self.now).simplex) r) }
+        ensures value { result ≡ option_map rank_of (slice_get (ranks (played self.now).simplex) r) }
+        // At the end the first rank's trial has the least outcome, and no neighbour of its point in the grid beats it.
+        ensures least { (played self.now).phase ≡ Converged → r ≡ 0 → IsSomeAnd result (λ rank. IsLeast self.now rank.trial) }
     {
-        let order = ranked(self.game.simplex());
-        let placed = order.as_slice().get(r as usize)?;
-        Some(Rank {
-            place: placed.place,
-            trial: placed.trial,
-        })
+        rank_in(self.game.simplex(), r)
     }
 
     /// The trial of the best entry, the first of the least cost. Refused points count for nothing.
@@ -154,9 +158,12 @@ impl Search {
         self.game.phase()
     }
 
-    /// How many steps were made.
+    /// How many steps were made. The search ends before it comes to the bound at which it is cut.
     pub fn steps(&self) -> u64
-        ensures { result ≡ (played self.now).steps }
+        ensures value { result ≡ (played self.now).steps }
+        ensures within { result ≤ most_steps self.now }
+        ensures before_end { (played self.now).phase ≢ Converged → result < most_steps self.now }
+        ensures falls { Falls self.now }
     {
         self.game.steps()
     }

@@ -1,6 +1,8 @@
-use Rattle.std.proofs.Common.{◌≡◌, ℕ, ◌+◌, ◌-◌, length, sym, ◌∙◌, subst, arith, vec_len, vec_capacity}
+use Rattle.std.proofs.Common.{◌≡◌, ℕ, ◌+◌, ◌-◌, length, ap, sym, ◌∙◌, subst, arith, vec_len, vec_capacity}
 use Rattle.ch_rank.specs.Entries.{known, played, pending}
-use Rattle.ch_rank.proofs.Waiting.{IsAt, waiting_now, cell_now, at_next, at_other, is_none_of, is_some_of}
+use Rattle.ch_rank.proofs.Waiting.{IsAt, waiting_now, cell_now, at_next, at_other, is_none_of, is_some_of, at_last, none_waits, end_waits}
+use Rattle.ch_rank.specs.Search.{Game}
+use Rattle.ch_rank.proofs.Entering.{game_now}
 use Rattle.ch_rank.proofs.search.Search.pending.Goals as goal
 use Rattle.ch_rank.proofs.search.Search.pending.Goals.{then-is_none, else-is_none}
 
@@ -21,3 +23,11 @@ loop-trial-preserved c =
           let s : IsAt k (pending c.args.self.now) n (c.loop-trial.trial + 1) c.loop-trial.pending = at_other k (pending c.args.self.now) n c.loop-trial.trial c.loop-trial.pending c.loop-trial.invariant.0 x.here o.0 (sym x.is ∙ o.1) in
           (subst (λ (p : ℕ). IsAt k (pending c.args.self.now) n (c.loop-trial.trial + 1) p) (sym w.pending-is) s, omega (arith, w.pending-is, c.loop-trial.invariant.1))
     ]
+
+pub returns-clause-end : goal.returns-clause-end
+returns-clause-end c =
+    let p = ap (λ (x : Game). length x.points) (game_now c.self.inside.params.items _ c.self.inside.outcomes.items c.self.inside.entries.items c.self.inside.best c.self.inside.most (vec_capacity c.self.inside.entries - vec_len c.self.inside.entries) c.args.self.now c.self.invariant c.self.view_is) in
+    let n : ℕ = length (played c.args.self.now).points in
+    let e : c.loop-trial.trial ≡ n = omega (arith, c.loop-trial-test.false, c.len-trial-end.ensures.value, c.loop-trial.invariant.0.within, p) in
+    let l = at_last (known c.args.self.now.entries) (pending c.args.self.now) n c.loop-trial.trial c.loop-trial.pending c.loop-trial.invariant.0 e in
+    (λ z. none_waits c.args.self.now (omega (arith, l, z)), λ z. let w = end_waits c.args.self.now z in omega (arith, l, w))
