@@ -20,7 +20,7 @@ use Rattle.ch_rank.specs.Leads.Leads.{stay, round}
 use Rattle.ch_rank.specs.Search.{Game, Known, costed, below, best, is_over, decided, decides, advance, opening, play, search_on, enlisted, numbers}
 use Rattle.ch_rank.specs.Entries.{Searched, played, known, most_steps, pending}
 use Rattle.ch_rank.specs.Course.{least, Passes, Falls}
-use Rattle.ch_rank.proofs.Lists.{In, all_at, all_more}
+use Rattle.ch_rank.proofs.Lists.{In, all_at, all_of, all_more, all_both}
 use Rattle.ch_rank.proofs.Table.{InGrid}
 use Rattle.ch_rank.proofs.Starting.{centre_point, sizes_some}
 use Rattle.ch_rank.proofs.Halving.{halvings_enough}
@@ -107,6 +107,22 @@ module _ (k : Known) (ns : List ℕ) (c : ℕ) (large : AreSizes (2 ^ c) ns) whe
   old_at j Shrink g o t h = o.old t h
   old_at j Probe g o t h = o.old t h
   old_at j Converged g o t h = let x = o.above t (omega arith) in (x.0, x.1)
+
+  -- each place's trial has its outcome
+  abbrev pub Row : Game → Type 0
+  Row g = All (λ d. (d.trial < length g.points) × (k d.trial ≡ Some d.outcome)) g.simplex
+
+  base_row : (j : ℕ) (g : Game) → Base k ns c j g → Row g
+  base_row j g b = all_both (λ d. d.trial < length g.points) (λ d. k d.trial ≡ Some d.outcome) (λ d. (d.trial < length g.points) × (k d.trial ≡ Some d.outcome)) g.simplex (λ d x y. (x, y)) b.simplex_in b.simplex_held
+
+  row_at : (j : ℕ) (ph : Phase) (g : Game) → Reached k ns c j ph g → Row g
+  row_at j Start g o = subst (λ (row : List Costed). All (λ d. (d.trial < length g.points) × (k d.trial ≡ Some d.outcome)) row) (sym o.empty) (all_of (λ d. (d.trial < length g.points) × (k d.trial ≡ Some d.outcome)) [] (λ d i. absurd i))
+  row_at j Reflect g o = base_row j g o.base
+  row_at j Try g o = base_row j g o.base
+  row_at j Expand g o = base_row j g o.base
+  row_at j Shrink g o = base_row j g o.base
+  row_at j Probe g o = base_row j g o.base
+  row_at j Converged g o = all_both (λ d. d.trial < length g.points) (λ d. k d.trial ≡ Some d.outcome) (λ d. (d.trial < length g.points) × (k d.trial ≡ Some d.outcome)) g.simplex (λ d x y. (x, y)) o.simplex_in o.simplex_held
 
   asked_at : (j : ℕ) (ph : Phase) (g : Game) → Reached k ns c j ph g → (t : ℕ) → In t g.asked → t < length g.points
   asked_at j Start g o t i = all_at (λ u. u < length g.points) t g.asked o.asked_in i
@@ -199,6 +215,9 @@ steps_before ps k n =
 
 pub old_known : (ps : List Param) (k : Known) (t : ℕ) → t + length (search_on (sizes ps) k).asked < length (search_on (sizes ps) k).points → (o : Outcome) × (k t ≡ Some o)
 old_known ps k t h = let r = searched ps k in old_at k (sizes ps) (shrinks ps) (sizes_large ps) r.halvings (search_on (sizes ps) k).phase (search_on (sizes ps) k) r.reached t h
+
+pub played_row : (s : Searched) → All (λ d. (d.trial < length (played s).points) × (known s.entries d.trial ≡ Some d.outcome)) (played s).simplex
+played_row s = let r = searched s.grid (known s.entries) in row_at (known s.entries) (sizes s.grid) (shrinks s.grid) (sizes_large s.grid) r.halvings (played s).phase (played s) r.reached
 
 which_end : (b : Bool) → (b ≡ true) ⊎ (b ≡ false)
 which_end true = inl refl

@@ -1,9 +1,9 @@
 -- At the end of a search the first rank's trial has the least outcome, and no neighbour of its point beats it.
-use Rattle.std.proofs.Common.{◌≡◌, ◌≢◌, ℕ, suc, ◌+◌, ◌-◌, ◌<◌, ◌≤◌, Bool, true, false, eqb, nat_lt, List, [], ◌∷◌, length, get_or, Option, Some, None, refl, sym, ap, ◌∙◌, subst, arith, ◌⊎◌, inl, inr}
-use Rattle.std.specs.Prelude.{IsSomeAnd, slice_get, option_map}
+use Rattle.std.proofs.Common.{◌≡◌, ◌≢◌, ℕ, zero, suc, ◌+◌, ◌-◌, ◌<◌, ◌≤◌, Bool, true, false, eqb, nat_lt, List, [], ◌∷◌, length, get_or, Option, Some, None, refl, sym, ap, ◌∙◌, subst, arith, ◌⊎◌, inl, inr}
+use Rattle.std.specs.Prelude.{IsSomeAnd, IsSome, IfSome, slice_get, option_map}
 use Rattle.std.specs.List.{All}
 use Rattle.std.proofs.lemmas.Bool.Decides.{nat_tests}
-use Rattle.std.proofs.lemmas.List.Elements.{All-get_or, All-head}
+use Rattle.std.proofs.lemmas.List.Elements.{All-head, All-tail}
 use Rattle.ch_grid.specs.declared.param.Param.{Param}
 use Rattle.ch_grid.specs.Grid.{sizes}
 use Rattle.ch_rank.specs.declared.outcome.Outcome.{Outcome}
@@ -20,11 +20,11 @@ use Rattle.ch_rank.specs.Course.{IsBeaten, IsLeast}
 use Rattle.ch_rank.proofs.Lists.{In, all_at, all_of, all_more, list_all_all}
 use Rattle.ch_rank.proofs.Held.{mark_at, best_held}
 use Rattle.ch_rank.proofs.Outcomes.{not_below_top}
-use Rattle.ch_rank.proofs.Ranking.{all_ranked, length_order, versions_least, IsLeastOf}
+use Rattle.ch_rank.proofs.Ranking.{all_ranked, length_order, versions_least, last_all}
 use Rattle.ch_grid.specs.Points.{count}
 use Rattle.ch_rank.specs.declared.ranks.Rank.{Rank}
 use Rattle.ch_rank.proofs.Entering.{few_entries, game_now}
-use Rattle.ch_rank.proofs.Ending.{ended, steps_within, steps_before}
+use Rattle.ch_rank.proofs.Ending.{ended, played_row, steps_within, steps_before}
 
 eqb_is : (x y : ℕ) → eqb x y ≡ true → x ≡ y
 eqb_is x y h = grind (arith, nat_tests)
@@ -113,9 +113,9 @@ few_now ps g os es b most s = let f = few_entries es (length g.points) s.legal i
 
 pub first_now : (ps : List Param) (g : Game) (os : List (Option Outcome)) (es : List Costed) (b : Option Costed) (most spare r : ℕ) (now : Searched) (row : List Costed) (result : Option Rank) → IsSearch ps g os es b most → record { grid = ps; entries = es; spare = spare } ≡ now → row ≡ g.simplex → result ≡ option_map rank_of (slice_get (ranks row) r) →
     (played now).phase ≡ Converged → r ≡ 0 → IsSomeAnd result (λ rank. IsLeast now rank.trial)
-first_now ps g os es b most spare r now row result s v w e end zero =
+first_now ps g os es b most spare r now row result s v w e end is_first =
     let simplex : row ≡ (played now).simplex = w ∙ ap (λ (x : Game). x.simplex) (game_now ps g os es b most spare now s v) in
-    let is : result ≡ option_map rank_of (slice_get (ranks (played now).simplex) 0) = e ∙ (ap (λ (x : List Costed). option_map rank_of (slice_get (ranks x) r)) simplex ∙ ap (λ i. option_map rank_of (slice_get (ranks (played now).simplex) i)) zero) in
+    let is : result ≡ option_map rank_of (slice_get (ranks (played now).simplex) 0) = e ∙ (ap (λ (x : List Costed). option_map rank_of (slice_get (ranks x) r)) simplex ∙ ap (λ i. option_map rank_of (slice_get (ranks (played now).simplex) i)) is_first) in
     subst (λ (x : Option Rank). IsSomeAnd x (λ rank. IsLeast now rank.trial)) (sym is) (first_rank now (legal_now ps g os es b most spare now s v) end)
 
 pub steps_now : (ps : List Param) (g : Game) (os : List (Option Outcome)) (es : List Costed) (b : Option Costed) (most spare : ℕ) (now : Searched) → IsSearch ps g os es b most → record { grid = ps; entries = es; spare = spare } ≡ now → (g.steps ≤ most_steps now) × ((played now).phase ≢ Converged → g.steps < most_steps now)
@@ -123,3 +123,31 @@ steps_now ps g os es b most spare now s v =
     let p = ap (λ (x : Game). x.steps) (game_now ps g os es b most spare now s v) in
     let w = steps_within now.grid (known now.entries) in
     (omega (arith, p, w), λ n. let l = steps_before now.grid (known now.entries) n in omega (arith, p, l))
+
+if_got : (Q : ℕ → Type 0) (ps : List Placed) (r : ℕ) → All (λ p. Q p.trial) ps → IfSome (option_map rank_of (slice_get ps r)) (λ rank. Q rank.trial)
+if_got Q [] r a = tt
+if_got Q (p ∷ ps) zero a = All-head (λ x. Q x.trial) p ps a
+if_got Q (p ∷ ps) (suc r) a = if_got Q ps r (All-tail (λ x. Q x.trial) p ps a)
+
+some_of : (x : Option Outcome) (o : Outcome) → x ≡ Some o → IsSome x
+some_of x o e = subst (λ (y : Option Outcome). IsSome y) (sym e) refl
+
+-- each rank's trial has an entry
+pub rank_now : (ps : List Param) (g : Game) (os : List (Option Outcome)) (es : List Costed) (b : Option Costed) (most spare r : ℕ) (now : Searched) (row : List Costed) (result : Option Rank) → IsSearch ps g os es b most → record { grid = ps; entries = es; spare = spare } ≡ now → row ≡ g.simplex → result ≡ option_map rank_of (slice_get (ranks row) r) →
+    IfSome result (λ rank. rank.trial < length (played now).points) × IfSome result (λ rank. IsSome (known now.entries rank.trial))
+rank_now ps g os es b most spare r now row result s v w e =
+    let simplex : row ≡ (played now).simplex = w ∙ ap (λ (x : Game). x.simplex) (game_now ps g os es b most spare now s v) in
+    let is : result ≡ option_map rank_of (slice_get (ranks (played now).simplex) r) = e ∙ ap (λ (x : List Costed). option_map rank_of (slice_get (ranks x) r)) simplex in
+    let all = played_row now in
+    let here = all_ranked (λ t. t < length (played now).points) 0 (played now).simplex (all_more (λ d. (d.trial < length (played now).points) × (known now.entries d.trial ≡ Some d.outcome)) (λ d. d.trial < length (played now).points) (played now).simplex (λ d x. x.0) all) in
+    let entered = all_ranked (λ t. IsSome (known now.entries t)) 0 (played now).simplex (all_more (λ d. (d.trial < length (played now).points) × (known now.entries d.trial ≡ Some d.outcome)) (λ d. IsSome (known now.entries d.trial)) (played now).simplex (λ d x. some_of (known now.entries d.trial) d.outcome x.1) all) in (
+      subst (λ (x : Option Rank). IfSome x (λ rank. rank.trial < length (played now).points)) (sym is) (if_got (λ t. t < length (played now).points) (ranks (played now).simplex) r here),
+      subst (λ (x : Option Rank). IfSome x (λ rank. IsSome (known now.entries rank.trial))) (sym is) (if_got (λ t. IsSome (known now.entries t)) (ranks (played now).simplex) r entered),
+    )
+
+pub best_now : (ps : List Param) (g : Game) (os : List (Option Outcome)) (es : List Costed) (b : Option Costed) (most spare : ℕ) (now : Searched) (e : Costed) → IsSearch ps g os es b most → record { grid = ps; entries = es; spare = spare } ≡ now → b ≡ Some e → e.trial < length (played now).points
+best_now ps g os es b most spare now e s v is =
+    let l = legal_now ps g os es b most spare now s v in
+    let a = last_all (λ x. x.trial < length (played now).points) now.entries (all_more (λ x. (x.trial < length (played now).points) × (known now.entries x.trial ≡ Some x.outcome)) (λ x. x.trial < length (played now).points) now.entries (λ x y. y.0) l.here) in
+    let q : last_of (versions now.entries) ≡ Some e = ap (λ (x : Searched). last_of (versions x.entries)) (sym v) ∙ (sym s.best_is ∙ is) in
+    subst (λ (o : Option Costed). IfSome o (λ x. x.trial < length (played now).points)) q a

@@ -1,4 +1,4 @@
-ghost use Rattle.std.specs.Prelude.{◌≡◌, ◌≢◌, ◌↔◌, IsSomeAnd, ◌+◌, ◌-◌, ◌<◌, ◌≤◌, ◌++◌, ◌∷◌, [], OnOk, OnErr, IfOk, IfErr, IfSome, length, option_map, slice_index, slice_index_or, slice_get, true, false};
+ghost use Rattle.std.specs.Prelude.{◌≡◌, ◌≢◌, ◌↔◌, IsSomeAnd, IsSome, ◌+◌, ◌-◌, ◌<◌, ◌≤◌, ◌++◌, ◌∷◌, [], OnOk, OnErr, IfOk, IfErr, IfSome, length, option_map, slice_index, slice_index_or, slice_get, true, false};
 ghost use Rattle.ch_grid.specs.Grid.{sizes};
 ghost use Rattle.ch_grid.specs.Points.{count};
 ghost use Rattle.ch_rank.specs.Course.{Falls, IsLeast};
@@ -135,6 +135,8 @@ impl Search {
     /// The place at rank `r`, counted from 0: the places of the last fully costed simplex in order of outcome, then of place.
     pub fn rank_at(&self, r: u32) -> Option<Rank>
         ensures value { result ≡ option_map rank_of (slice_get (ranks (played self.now).simplex) r) }
+        ensures here { IfSome result (λ rank. rank.trial < length (played self.now).points) }
+        ensures entered { IfSome result (λ rank. IsSome (known self.now.entries rank.trial)) }
         // At the end the first rank's trial has the least outcome, and no neighbour of its point in the grid beats it.
         ensures least { (played self.now).phase ≡ Converged → r ≡ 0 → IsSomeAnd result (λ rank. IsLeast self.now rank.trial) }
     {
@@ -143,7 +145,8 @@ impl Search {
 
     /// The trial of the best entry, the first of the least cost. Refused points count for nothing.
     pub fn best(&self) -> Option<u32>
-        ensures { result ≡ option_map (λ e. e.trial) (last_of (versions self.now.entries)) }
+        ensures value { result ≡ option_map (λ e. e.trial) (last_of (versions self.now.entries)) }
+        ensures here { IfSome result (λ trial. trial < length (played self.now).points) }
     {
         match self.best {
             Some(entry) => Some(entry.trial),
