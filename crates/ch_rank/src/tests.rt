@@ -1,9 +1,7 @@
-ghost use Rattle.std.specs.Prelude.{◌≡◌, ◌<◌, ◌≤◌, IfOk, length};
-
 use super::*;
 use ch_affine::List;
 use ch_grid::{Grid, Param};
-use std::alloc::Global;
+use std::alloc::{AllocError, Global};
 use std::process::Abort;
 use std::test::Fail;
 
@@ -65,161 +63,174 @@ fn start(rt: &impl Abort, alloc: Global, params: &[Param]) -> Result<Search, Fai
     }
 }
 
+/// The pending trial at a place, if there is one.
+fn waiting(search: &Search, i: u32) -> Option<u32> {
+    if i < search.pending() {
+        Some(search.pending_at(i))
+    } else {
+        None
+    }
+}
+
+/// Whether the first pending trial has this point.
+fn waits_at(search: &Search, point: &[u32]) -> bool {
+    search.pending() > 0 && search.point_of(search.pending_at(0)) == point
+}
+
+/// What the first pending trial costs.
+fn next_outcome(search: &Search, costs: Costs) -> Outcome {
+    if search.pending() > 0 {
+        costs.of(search.point_of(search.pending_at(0)))
+    } else {
+        Outcome::Refused
+    }
+}
+
+fn report(
+    search: &mut Search,
+    trial: u32,
+    outcome: Outcome,
+) -> Result<Result<(), RankError>, AllocError> {
+    search.reserve(1)?;
+    Ok(search.enter(trial, outcome))
+}
+
 /// Enters the pending trials in order, so many at most, and says how many there were.
-fn enter(search: &mut Search, costs: Costs, most: usize) -> Result<usize, Fail> {
+fn enter(search: &mut Search, costs: Costs, most: usize) -> Result<usize, AllocError> {
     for entries in 0..most {
-        if search.pending() == 0 {
+        let Some(trial) = waiting(search, 0) else {
+            return Ok(entries);
+        };
+        let outcome = next_outcome(search, costs);
+        if report(search, trial, outcome)?.is_err() {
             return Ok(entries);
         }
-        let trial = search.pending_at(0);
-        let outcome = costs.of(search.point_of(trial));
-        search.reserve(1)?;
-        search.enter(trial, outcome)?;
     }
     Ok(most)
 }
 
-fn shows(rt: &impl Abort, search: &Search, phase: Phase, steps: u64, pending: u32) {
-    assert_eq!(rt;
-        (search.phase(), search.steps(), search.pending()),
-        (phase, steps, pending)
-    );
+fn state(search: &Search) -> (Phase, u64, u32) {
+    (search.phase(), search.steps(), search.pending())
 }
 
-fn ranks(rt: &impl Abort, search: &Search, trials: &[u32]) {
-    for r in 0..trials.len() {
-        let rank = search.rank_at(r as u32);
-        assert_eq!(rt;
-            rank,
-            Some(Rank {
-                place: r as u32,
-                trial: trials[r]
-            }),
-            "rank {r}"
-        );
+/// The trials at the first ranks, whose places are in order too; 99 where there is no such rank.
+fn ranked(search: &Search) -> [u32; 6] {
+    let mut trials = [99; 6];
+    for r in 0..6 {
+        if let Some(rank) = search.rank_at(r as u32)
+            && rank.place as usize == r
+        {
+            trials[r] = rank.trial;
+        }
     }
-    assert_eq!(rt; search.rank_at(trials.len() as u32), None);
+    trials
+}
+
+fn best_outcome(search: &Search) -> Option<Outcome> {
+    match search.best() {
+        Some(trial) => search.outcome_of(trial),
+        None => None,
+    }
 }
 
 #[test]
 fn a_flat_row_ends_at_its_centre(rt: HostRuntime) -> Result<(), Fail> {
-    let mut one = start(&rt, rt.alloc(), &[param(5, 5)])?;
-    ranks(&rt, &one, &[]);
-    assert_eq!(rt; enter(&mut one, Costs::Same(12), 100)?, 1);
-    shows(&rt, &one, Phase::Converged, 1, 0);
-    ranks(&rt, &one, &[0, 0, 0]);
-    assert_eq!(rt; one.best(), Some(0));
-
     let mut row = start(&rt, rt.alloc(), &[param(0, 20)])?;
-    for (trial, index) in [10, 14, 6, 12, 8, 11, 9].iter().enumerate() {
-        assert!(rt; trial < 7 && row.pending() > 0);
-        let next = row.pending_at(0);
-        assert_eq!(rt; next, trial as u32);
-        assert_eq!(rt; row.point_of(next), [*index].as_slice());
-        assert_eq!(rt; row.outcome_of(next), None);
-        assert_eq!(rt; enter(&mut row, Costs::Same(12), 1)?, 1);
-        if trial == 2 {
-            shows(&rt, &row, Phase::Shrink, 0, 2);
-            ranks(&rt, &row, &[0, 1, 2]);
-        }
+    for index in [10, 14, 6] {
+        assert!(rt; waits_at(&row, &[index]), "{index}");
+        enter(&mut row, Costs::Same(12), 1)?;
     }
-    shows(&rt, &row, Phase::Converged, 4, 0);
-    ranks(&rt, &row, &[0, 0, 0]);
-    assert_eq!(rt; row.best(), Some(0));
+    assert_eq!(rt;
+        (state(&row), ranked(&row)),
+        ((Phase::Shrink, 0, 2), [0, 1, 2, 99, 99, 99])
+    );
+    for index in [12, 8, 11, 9] {
+        assert!(rt; waits_at(&row, &[index]), "{index}");
+        enter(&mut row, Costs::Same(12), 1)?;
+    }
+    assert_eq!(rt;
+        (state(&row), ranked(&row)),
+        ((Phase::Converged, 4, 0), [0, 0, 0, 99, 99, 99])
+    );
     Ok(())
 }
 
 #[test]
 fn each_round_of_a_tiled_product(rt: HostRuntime) -> Result<(), Fail> {
     let rows = [
-        (Costs::Tiles(16), 0, Phase::Start, 0, 5),
-        (Costs::Tiles(16), 4, Phase::Start, 0, 1),
-        (Costs::Tiles(16), 5, Phase::Reflect, 0, 4),
-        (Costs::Tiles(16), 9, Phase::Reflect, 1, 2),
-        (Costs::Tiles(16), 11, Phase::Try, 1, 1),
-        (Costs::Tiles(16), 12, Phase::Reflect, 2, 1),
-        (Costs::Tiles(16), 13, Phase::Probe, 5, 1),
-        (Costs::Tiles(16), 14, Phase::Converged, 6, 0),
-        (Costs::Tiles(10), 9, Phase::Try, 0, 1),
-        (Costs::Tiles(10), 10, Phase::Expand, 0, 1),
-        (Costs::Tiles(10), 14, Phase::Converged, 5, 0),
+        (16, 0, (Phase::Start, 0, 5)),
+        (16, 5, (Phase::Reflect, 0, 4)),
+        (16, 9, (Phase::Reflect, 1, 2)),
+        (16, 11, (Phase::Try, 1, 1)),
+        (16, 12, (Phase::Reflect, 2, 1)),
+        (16, 13, (Phase::Probe, 5, 1)),
+        (16, 14, (Phase::Converged, 6, 0)),
+        (10, 9, (Phase::Try, 0, 1)),
+        (10, 10, (Phase::Expand, 0, 1)),
+        (10, 14, (Phase::Converged, 5, 0)),
     ];
-    for (costs, entries, phase, steps, pending) in rows {
+    for (size, entries, after) in rows {
         let mut search = start(&rt, rt.alloc(), &[param(1, 6), param(1, 6)])?;
-        assert_eq!(rt; enter(&mut search, costs, entries)?, entries, "{costs:?}");
-        shows(&rt, &search, phase, steps, pending);
+        enter(&mut search, Costs::Tiles(size), entries)?;
+        assert_eq!(rt; state(&search), after, "{entries} entries at {size}");
     }
     Ok(())
 }
 
 #[test]
 fn the_points_of_a_tiled_product(rt: HostRuntime) -> Result<(), Fail> {
-    let entries = [
-        ([3, 3], 10346),
-        ([4, 3], 9628),
-        ([2, 3], 11064),
-        ([3, 4], 10142),
-        ([3, 2], 10550),
-        ([5, 3], 9628),
-        ([6, 3], 9269),
-        ([5, 2], 9764),
-        ([5, 4], 9492),
-        ([6, 4], 9167),
-        ([6, 2], 9371),
-        ([6, 5], 9167),
-        ([6, 6], 9116),
-        ([5, 6], 9424),
+    let points = [
+        [2, 2],
+        [3, 2],
+        [1, 2],
+        [2, 3],
+        [2, 1],
+        [4, 2],
+        [5, 2],
+        [4, 1],
+        [4, 3],
+        [5, 3],
+        [5, 1],
+        [5, 4],
+        [5, 5],
+        [4, 5],
     ];
     let mut search = start(&rt, rt.alloc(), &[param(1, 6), param(1, 6)])?;
-    for (trial, (sizes, cost)) in entries.iter().enumerate() {
-        assert!(rt; search.pending() > 0);
-        let next = search.pending_at(0);
-        assert_eq!(rt; next as usize, trial);
-        assert_eq!(rt;
-            search.point_of(next),
-            [sizes[0] - 1, sizes[1] - 1].as_slice()
-        );
-        assert_eq!(rt; enter(&mut search, Costs::Tiles(16), 1)?, 1);
-        assert_eq!(rt; search.outcome_of(next), Some(Outcome::Cost(*cost)));
+    for point in points {
+        assert!(rt; waits_at(&search, &point), "{point:?}");
+        enter(&mut search, Costs::Tiles(16), 1)?;
     }
-    ranks(&rt, &search, &[12, 12, 12, 12, 12]);
-    assert_eq!(rt; search.best(), Some(12));
-    Ok(())
-}
-
-#[test]
-fn a_grid_without_parameters(rt: HostRuntime) -> Result<(), Fail> {
-    let mut search = start(&rt, rt.alloc(), &[])?;
-    shows(&rt, &search, Phase::Start, 0, 1);
-    assert_eq!(rt; enter(&mut search, Costs::Same(7), 10)?, 1);
-    shows(&rt, &search, Phase::Converged, 1, 0);
-    ranks(&rt, &search, &[0]);
+    assert_eq!(rt; ranked(&search), [12, 12, 12, 12, 12, 99]);
+    assert_eq!(rt; best_outcome(&search), Some(Outcome::Cost(9116)));
     Ok(())
 }
 
 #[test]
 fn refused_points_are_above_every_cost(rt: HostRuntime) -> Result<(), Fail> {
-    let mut all = start(&rt, rt.alloc(), &[param(0, 2)])?;
-    assert_eq!(rt; enter(&mut all, Costs::Refused, 10)?, 3);
-    shows(&rt, &all, Phase::Converged, 2, 0);
-    ranks(&rt, &all, &[0, 0, 0]);
-    assert_eq!(rt; all.best(), None);
-
-    // The trial that is accepted is the first, the second or the third of the first simplex, and the others are refused.
-    for accepted in 0..3 {
-        let mut one = start(&rt, rt.alloc(), &[param(0, 2)])?;
-        one.reserve(3)?;
+    // The one trial that is accepted, if any, is at each place of the first simplex in turn.
+    for accepted in 0..4 {
+        let mut search = start(&rt, rt.alloc(), &[param(0, 2)])?;
         for trial in 0..3 {
             let outcome = if trial == accepted {
                 Outcome::Cost(u64::MAX)
             } else {
                 Outcome::Refused
             };
-            assert_eq!(rt; one.enter(trial, outcome), Ok(()));
+            assert_eq!(rt; report(&mut search, trial, outcome)?, Ok(()));
         }
-        assert_eq!(rt; one.phase(), Phase::Converged);
-        ranks(&rt, &one, &[accepted, accepted, accepted]);
-        assert_eq!(rt; one.best(), Some(accepted));
+        let (first, best) = if accepted < 3 {
+            (accepted, Some(Outcome::Cost(u64::MAX)))
+        } else {
+            (0, None)
+        };
+        assert_eq!(rt;
+            (ranked(&search), best_outcome(&search)),
+            ([first, first, first, 99, 99, 99], best)
+        );
+        assert_eq!(rt;
+            (search.phase(), waiting(&search, 0)),
+            (Phase::Converged, None)
+        );
     }
     Ok(())
 }
@@ -227,18 +238,19 @@ fn refused_points_are_above_every_cost(rt: HostRuntime) -> Result<(), Fail> {
 #[test]
 fn only_a_pending_trial_is_entered(rt: HostRuntime) -> Result<(), Fail> {
     let mut search = start(&rt, rt.alloc(), &[param(0, 20)])?;
-    search.reserve(4)?;
-    assert_eq!(rt;
-        search.enter(3, Outcome::Refused),
-        Err(RankError::NotPending { trial: 3 })
-    );
-    assert_eq!(rt; search.enter(1, Outcome::Cost(2)), Ok(()));
-    assert_eq!(rt;
-        search.enter(1, Outcome::Cost(2)),
-        Err(RankError::NotPending { trial: 1 })
-    );
-    shows(&rt, &search, Phase::Start, 0, 2);
-    assert_eq!(rt; (search.pending_at(0), search.pending_at(1)), (0, 2));
+    for (trial, entered) in [(3, false), (1, true), (1, false), (2, true)] {
+        let wanted = if entered {
+            Ok(())
+        } else {
+            Err(RankError::NotPending { trial })
+        };
+        assert_eq!(rt;
+            report(&mut search, trial, Outcome::Cost(2))?,
+            wanted,
+            "{trial}"
+        );
+    }
+    assert_eq!(rt; (waiting(&search, 0), waiting(&search, 1)), (Some(0), None));
     Ok(())
 }
 
@@ -257,7 +269,17 @@ fn grids_at_their_limits(rt: HostRuntime) -> Result<(), Fail> {
         high: 1_048_575,
         step: 32,
     }];
+    let single = [
+        Param {
+            low: -1_048_576,
+            high: 1_048_576,
+            step: 1_048_576,
+        },
+        param(5, 5),
+    ];
     let rows = [
+        ([].as_slice(), Costs::Same(7), 7),
+        (single.as_slice(), Costs::Same(1), 1),
         (six.as_slice(), Costs::Same(3), 3),
         (
             six.as_slice(),
@@ -291,9 +313,8 @@ fn grids_at_their_limits(rt: HostRuntime) -> Result<(), Fail> {
         let mut search = start(&rt, rt.alloc(), params)?;
         enter(&mut search, costs, 1000)?;
         assert_eq!(rt; search.phase(), Phase::Converged, "{costs:?}");
-        let best = search.best().ok_or("no cost")?;
         assert_eq!(rt;
-            search.outcome_of(best),
+            best_outcome(&search),
             Some(Outcome::Cost(cost)),
             "{costs:?}"
         );
