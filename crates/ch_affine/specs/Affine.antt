@@ -12,6 +12,9 @@ pub record IsSmall (f : Form) : Type 0 where
   pub coefs : All (IsAtMost (2 ^ 60)) f.coefs
   pub constant : IsAtMost (2 ^ 60) f.constant
 
+abbrev pub form : List ℤ → ℤ → Form
+form coefs constant = record { coefs = coefs; constant = constant }
+
 -- the sum of the products, as far as both lists go
 abbrev pub dot : List ℤ → List ℤ → ℤ
 dot [] xs = pos 0

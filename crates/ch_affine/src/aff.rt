@@ -1,8 +1,10 @@
-ghost use Rattle.std.specs.Prelude.{◌≡◌, ◌≤◌, ◌^◌, ◌+ℤ◌, ◌*ℤ◌, ◌+◌, ◌<◌, unsigned_abs, length};
+ghost use Rattle.std.specs.Prelude.{◌≡◌, ◌≤◌, ◌^◌, ◌+ℤ◌, length, IfOk, IfSome, IsSome, IsTrue, ◌↔◌};
 ghost use Rattle.std.specs.List.{All};
-ghost use Rattle.ch_affine.specs.Affine.{IsAtMost, value, dot};
+ghost use Rattle.ch_affine.specs.Affine.{IsAtMost, IsSmall, form, value, dot};
 
 use crate::list::List;
+use crate::wide::{plus, times};
+use std::alloc::{AllocError, Global};
 use std::marker::Model;
 
 /// An affine form: a constant plus, for each variable, a coefficient times the variable.
@@ -27,6 +29,18 @@ impl Model for Aff {
 }
 
 impl Aff {
+    /// The form of these parts, or None where there are too many or a number is too large.
+    pub fn new(coefs: List<i64>, constant: i64) -> Option<Aff>
+        ensures fits { IsSome result ↔ IsSmall (form coefs constant) }
+        ensures value { IfSome result (λ a. a ≡ form coefs constant) }
+    {
+        let fits = coefs.len() <= 4096 && all_small(coefs.as_slice()) && is_small(constant);
+        if !fits {
+            return None;
+        }
+        Some(Aff { coefs, constant })
+    }
+
     /// The exact value at a point, which has one number for each variable.
     pub fn value(&self, point: &[i64]) -> i128
         requires same { length point.now ≡ length self.now.coefs }
@@ -34,6 +48,17 @@ impl Aff {
         ensures { result ≡ value self.now point.now }
     {
         weighed(self.constant, self.coefs.as_slice(), point)
+    }
+
+    /// A form of its own with the same numbers.
+    pub fn copied(&self, alloc: Global) -> Result<Aff, AllocError>
+        ensures { IfOk result (λ form. form ≡ self.now) }
+    {
+        let coefs = List::from_slice(alloc, self.coefs.as_slice())?;
+        Ok(Aff {
+            coefs,
+            constant: self.constant,
+        })
     }
 }
 
@@ -52,19 +77,14 @@ fn weighed(constant: i64, coefs: &[i64], point: &[i64]) -> i128
     sum
 }
 
-fn times(coef: i64, x: i64) -> i128
-    requires coef_small { IsAtMost (2 ^ 60) coef }
-    requires x_small { IsAtMost (2 ^ 54) x }
-    ensures value { result ≡ coef *ℤ x }
-    ensures bound { IsAtMost (2 ^ 114) result }
+fn all_small(numbers: &[i64]) -> bool
+    ensures { IsTrue result ↔ All (IsAtMost (2 ^ 60)) numbers.now }
 {
-    coef as i128 * x as i128
+    numbers.iter().all(|number| is_small(*number))
 }
 
-fn plus(sum: i128, more: i128) -> i128
-    requires fits { unsigned_abs sum + unsigned_abs more < 2 ^ 127 }
-    ensures value { result ≡ sum +ℤ more }
-    ensures bound { unsigned_abs result ≤ unsigned_abs sum + unsigned_abs more }
+fn is_small(number: i64) -> bool
+    ensures { IsTrue result ↔ IsAtMost (2 ^ 60) number }
 {
-    sum + more
+    number.unsigned_abs() <= 1 << 60
 }

@@ -4,10 +4,17 @@
 
 mod aff;
 mod boxed;
+mod combination;
 mod list;
+mod system;
+#[cfg(test)]
+mod tests;
 mod text;
+pub mod wide;
 
 pub use aff::Aff;
 pub use boxed::Boxed;
+pub use combination::{AffError, combine};
 pub use list::List;
+pub use system::{Range, System, all_hold};
 pub use text::Text;

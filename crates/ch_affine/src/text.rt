@@ -2,6 +2,7 @@ ghost use Rattle.std.specs.Prelude.{◌≡◌, [], ◌∷◌, ◌++◌, ◌<◌,
 ghost use Rattle.std.specs.List.{list_all};
 ghost use Rattle.std.specs.Char.{is_ascii};
 
+use itoa::{Buffer, Integer};
 use std::alloc::{AllocError, Global};
 use std::marker::Model;
 
@@ -56,6 +57,24 @@ impl Text {
         ensures err { OnErr result (self.new ≡ self.old) }
     {
         self.bytes.extend_from_slice(bytes)
+    }
+
+    /// Adds a number in decimal.
+    #[tactic(auto, using(crate::proofs::Ascii::all_ascii))]
+    pub fn append_number<I: Integer>(&mut self, number: I) -> Result<(), AllocError>
+        ensures ok { OnOk result (self.new ≡ self.old ++ I.text number) }
+        ensures err { OnErr result (self.new ≡ self.old) }
+    {
+        let mut buffer = Buffer::new();
+        self.append(buffer.format(number).as_bytes())
+    }
+
+    /// A text of its own with the same bytes.
+    pub fn copied(&self, alloc: Global) -> Result<Text, AllocError>
+        ensures { IfOk result (λ t. t ≡ self.now) }
+    {
+        let bytes = Vec::from_slice(alloc, self.bytes.as_slice())?;
+        Ok(Text { bytes })
     }
 
     pub fn as_bytes(&self) -> &[u8]
