@@ -1,16 +1,14 @@
 -- Trials lie at points of the grid, no two at one; what asking for points makes of them.
-use Rattle.std.proofs.Common.{◌≡◌, ℕ, zero, suc, ◌+◌, ◌-◌, ◌<◌, ◌≤◌, Bool, true, false, cond, eqb, nat_lt, List, [], ◌∷◌, ◌++◌, length, get_or, refl, sym, ap, ap₂, ◌∙◌, subst, arith, length-append, ◌⊎◌, inl, inr}
+use Rattle.std.proofs.Common.{◌≡◌, ℕ, zero, suc, ◌+◌, ◌-◌, ◌<◌, ◌≤◌, Bool, true, false, cond, List, [], ◌∷◌, ◌++◌, length, get_or, refl, sym, ap, ◌∙◌, subst, arith, length-append, ◌⊎◌, inl, inr}
 use Rattle.std.specs.List.{All, list_any, IsDistinct, AllByRecursion}
 use Rattle.std.proofs.lemmas.List.Elements.{All-head, All-tail, All-append, All-cons, All-nil}
 use Rattle.std.proofs.lemmas.Bool.Decides.{nat_tests}
-use Rattle.ch_grid.specs.Points.{is_point}
 use Rattle.ch_rank.specs.Moves.{Point, same_point}
 use Rattle.ch_rank.specs.Trials.{mark, mark_from, with_point}
 use Rattle.ch_rank.specs.Search.{enlisted, numbers}
 use Rattle.ch_rank.proofs.Lists.{In}
 use Rattle.ch_rank.proofs.Marks.{same_self, mark_new, mark_kept, with_new, with_old}
 use Rattle.ch_rank.proofs.Table.{InGrid, apart_push}
-use Rattle.ch_rank.proofs.Asking.{Keeps}
 use Rattle.ch_rank.proofs.Held.{point_here, keeps_all}
 
 pub record AreApart (ns : List ℕ) (ps : List Point) : Type 0 where

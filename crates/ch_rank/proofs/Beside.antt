@@ -1,10 +1,10 @@
 -- The neighbours, one coordinate after another.
-use Rattle.std.proofs.Common.{◌≡◌, ℕ, zero, suc, ◌+◌, ◌-◌, ◌*◌, ◌<◌, ◌≤◌, Bool, true, false, cond, nat_lt, ◌&&◌, List, [], ◌∷◌, ◌++◌, length, take, set, get_or, refl, sym, ap, ◌∙◌, subst, arith, length-append}
+use Rattle.std.proofs.Common.{◌≡◌, ℕ, zero, suc, ◌+◌, ◌-◌, ◌<◌, ◌≤◌, Bool, true, false, cond, nat_lt, ◌&&◌, List, [], ◌∷◌, length, take, set, get_or, refl, ap, arith, length-append}
 use Rattle.std.proofs.lemmas.Bool.Decides.{nat_tests}
 use Rattle.std.proofs.lemmas.List.{get_or-take}
 use Rattle.ch_grid.specs.Points.{is_point, count}
 use Rattle.ch_grid.proofs.PointNumbers.{both}
-use Rattle.ch_rank.specs.Moves.{Point, beside, around, centre}
+use Rattle.ch_rank.specs.Moves.{Point, beside}
 use Rattle.ch_rank.proofs.Moved.{coordinate}
 
 and_of : (a b : Bool) → a ≡ true → b ≡ true → (a && b) ≡ true

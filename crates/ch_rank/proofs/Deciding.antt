@@ -1,29 +1,27 @@
 -- Each round that is decided keeps what a search keeps.
-use Rattle.std.proofs.Common.{◌≡◌, ◌≢◌, ℕ, zero, suc, ◌+◌, ◌-◌, ◌*◌, ◌^◌, ◌<◌, ◌≤◌, Bool, true, false, cond, nat_lt, ◌&&◌, not, List, [], ◌∷◌, length, map, get_or, Option, Some, None, refl, sym, ap, ap₂, ◌∙◌, subst, arith, ◌⊎◌, inl, inr}
+use Rattle.std.proofs.Common.{◌≡◌, ◌≢◌, ℕ, suc, ◌+◌, ◌-◌, ◌*◌, ◌^◌, ◌<◌, Bool, true, false, cond, List, [], ◌∷◌, length, get_or, Some, refl, sym, ap, ◌∙◌, subst, arith, ◌⊎◌, inl, inr}
 use Rattle.std.specs.List.{All}
 use Rattle.std.proofs.Math.Nat.{pow-suc}
-use Rattle.ch_grid.specs.Points.{is_point, count}
+use Rattle.ch_grid.specs.Points.{count}
 use Rattle.ch_rank.specs.declared.outcome.Outcome.{Outcome}
 use Rattle.ch_rank.specs.declared.outcome.Outcome.TheVariants.{Refused}
 use Rattle.ch_rank.specs.declared.outcome.Costed.{Costed}
 use Rattle.ch_rank.specs.declared.phase.Phase.{Phase}
 use Rattle.ch_rank.specs.declared.phase.Phase.TheVariants.{Start, Reflect, Try, Expand, Shrink, Probe, Converged}
-use Rattle.ch_rank.specs.Moves.{Point, moved, reflection, expansion, halfway, near}
-use Rattle.ch_rank.specs.Trials.{mark}
+use Rattle.ch_rank.specs.Moves.{Point, moved, expansion, halfway}
 use Rattle.ch_rank.specs.Course.{least}
-use Rattle.ch_rank.specs.Search.{Game, Known, costed, below, best, others, place_of_best, lowers, is_flat, enlisted, numbers, asks, move, moves, only, begins, begins_on, stepped, decides, decided, advance, is_over}
-use Rattle.ch_rank.proofs.Lists.{In, all_at, all_of, all_more, all_both}
+use Rattle.ch_rank.specs.Search.{Game, Known, costed, below, best, place_of_best, lowers, is_flat, enlisted, numbers, asks, move, moves, only, begins, stepped, decides}
+use Rattle.ch_rank.proofs.Lists.{In, all_at, all_of, all_both}
 use Rattle.ch_rank.proofs.Table.{InGrid, few_trials}
 use Rattle.ch_rank.proofs.Rowing as rowing
 use Rattle.ch_rank.proofs.Ranges.{best_in}
-use Rattle.ch_rank.proofs.Asking.{Keeps}
 use Rattle.ch_rank.proofs.Held.{Held, keeps_all, costed_held, best_held}
 use Rattle.ch_rank.proofs.Spread.{Within, AreSizes, within_half}
 use Rattle.ch_rank.proofs.Least.{Steps, steps_start, steps_below, below_trans, below_self}
 use Rattle.ch_rank.proofs.Outcomes.{below_asym, le_below, not_trans, not_below_top, best_least, best_among, lowers_some, lowers_in, lowers_none, lowers_long, in_costed, costed_asked}
 use Rattle.ch_rank.proofs.Apart.{AreApart, asked_all, new_asked, asked_in, mark_of}
-use Rattle.ch_rank.proofs.Going.{Inside, Spread, spread_grid, at_point, moves_all, only_all, Above, Decided, decided_row, asks_decided, Base, aim, Turn, Going, Opened, Ended, Reached}
-use Rattle.ch_rank.proofs.Reaching.{top_in, AllKnown, known_of, going_asks, moves_in, moves_keep, After, Next, same_step, begins_same, begins_reached, lower_next, same_next, row_in, left}
+use Rattle.ch_rank.proofs.Going.{Inside, spread_grid, at_point, moves_all, only_all, Above, Decided, decided_row, asks_decided, Base, aim, Turn, Going, Opened, Reached}
+use Rattle.ch_rank.proofs.Reaching.{top_in, AllKnown, known_of, going_asks, moves_in, moves_keep, Next, same_step, begins_same, begins_reached, lower_next, same_next, row_in, left}
 
 -- the best of a led row is not above what is below or at its first
 led_least : (b : Costed) (row : List Costed) → below b.outcome (best (b ∷ row)).outcome ≡ false

@@ -1,7 +1,6 @@
 -- What holds of a search wherever it has come to, and how it ends.
-use Rattle.std.proofs.Common.{◌≡◌, ◌≢◌, ℕ, zero, suc, ◌+◌, ◌-◌, ◌*◌, ◌^◌, ◌<◌, ◌≤◌, Bool, true, false, cond, eqb, nat_lt, ◌&&◌, not, List, [], ◌∷◌, length, get_or, Option, Some, None, is_some, refl, sym, ap, ◌∙◌, subst, arith, ◌⊎◌, inl, inr}
-use Rattle.std.specs.List.{All, list_all, range_with_len}
-use Rattle.std.specs.Prelude.{filter}
+use Rattle.std.proofs.Common.{◌≡◌, ◌≢◌, ℕ, ◌+◌, ◌*◌, ◌^◌, ◌<◌, ◌≤◌, Bool, true, false, cond, nat_lt, ◌&&◌, not, List, [], length, get_or, Option, Some, None, refl, sym, ap, ◌∙◌, subst, arith, ◌⊎◌, inl, inr}
+use Rattle.std.specs.List.{All}
 use Rattle.std.proofs.lemmas.Bool.Decides.{nat_tests}
 use Rattle.std.proofs.Math.Nat.{mul-le-mul_right}
 use Rattle.ch_grid.specs.declared.param.Param.{Param}
@@ -12,14 +11,13 @@ use Rattle.ch_rank.specs.declared.outcome.Outcome.{Outcome}
 use Rattle.ch_rank.specs.declared.outcome.Costed.{Costed}
 use Rattle.ch_rank.specs.declared.phase.Phase.{Phase}
 use Rattle.ch_rank.specs.declared.phase.Phase.TheVariants.{Start, Reflect, Try, Expand, Shrink, Probe, Converged}
-use Rattle.ch_rank.specs.Moves.{Point, first_simplex, centre, near}
-use Rattle.ch_rank.specs.Trials.{mark}
+use Rattle.ch_rank.specs.Moves.{Point, first_simplex}
 use Rattle.ch_rank.specs.Bound.{bound, greatest, halvings}
 use Rattle.ch_rank.specs.Leads.{Leads}
 use Rattle.ch_rank.specs.Leads.Leads.{stay, round}
-use Rattle.ch_rank.specs.Search.{Game, Known, costed, below, best, is_over, decided, decides, advance, opening, play, search_on, enlisted, numbers}
-use Rattle.ch_rank.specs.Entries.{Searched, played, known, most_steps, pending}
-use Rattle.ch_rank.specs.Course.{least, Passes, Falls}
+use Rattle.ch_rank.specs.Search.{Game, Known, costed, below, is_over, decided, decides, advance, opening, search_on, enlisted, numbers}
+use Rattle.ch_rank.specs.Entries.{Searched, played, known, most_steps}
+use Rattle.ch_rank.specs.Course.{least, Falls}
 use Rattle.ch_rank.proofs.Lists.{In, all_at, all_of, all_more, all_both}
 use Rattle.ch_rank.proofs.Table.{InGrid}
 use Rattle.ch_rank.proofs.Starting.{centre_point, sizes_some}
@@ -28,9 +26,9 @@ use Rattle.ch_rank.proofs.Spread.{AreSizes, are_sizes}
 use Rattle.ch_rank.proofs.Replay.{leads_to_play, settles}
 use Rattle.ch_rank.proofs.Least.{below_trans, below_self}
 use Rattle.ch_rank.proofs.Outcomes.{costed_some}
-use Rattle.ch_rank.proofs.Apart.{AreApart, none_apart, enlisted_apart, asked_all, new_asked, enlisted_long, numbers_long}
-use Rattle.ch_rank.proofs.Going.{first_in, Base, Going, Opened, Ended, Reached}
-use Rattle.ch_rank.proofs.Reaching.{After, Next}
+use Rattle.ch_rank.proofs.Apart.{none_apart, enlisted_apart, asked_all, new_asked, enlisted_long, numbers_long}
+use Rattle.ch_rank.proofs.Going.{first_in, Base, Opened, Ended, Reached}
+use Rattle.ch_rank.proofs.Reaching.{Next}
 use Rattle.ch_rank.proofs.Deciding.{decides_next, below_bound}
 
 over_case : (a : Bool) (ph : Phase) → (a && not (is_over ph)) ≡ true → ph ≢ Converged

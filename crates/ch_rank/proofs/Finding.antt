@@ -13,13 +13,12 @@ use Rattle.ch_rank.specs.declared.ranks.Placed.{Placed}
 use Rattle.ch_rank.specs.declared.phase.Phase.TheVariants.{Converged}
 use Rattle.ch_rank.specs.Moves.{Point, near}
 use Rattle.ch_rank.specs.Trials.{mark}
-use Rattle.ch_rank.specs.Search.{Game, Known, below, best, search_on}
-use Rattle.ch_rank.specs.Ranks.{ranks, in_order, numbered, rank_of, versions, last_of, least_of}
+use Rattle.ch_rank.specs.Search.{Game, Known, below, best}
+use Rattle.ch_rank.specs.Ranks.{ranks, rank_of, versions, last_of, least_of}
 use Rattle.ch_rank.specs.Entries.{Searched, played, known, most_steps, AreLegal, IsSearch}
 use Rattle.ch_rank.specs.Course.{IsBeaten, IsLeast}
-use Rattle.ch_rank.proofs.Lists.{In, all_at, all_of, all_more, list_all_all}
+use Rattle.ch_rank.proofs.Lists.{In, all_at, all_more, list_all_all}
 use Rattle.ch_rank.proofs.Held.{mark_at, best_held}
-use Rattle.ch_rank.proofs.Outcomes.{not_below_top}
 use Rattle.ch_rank.proofs.Ranking.{all_ranked, length_order, versions_least, last_all}
 use Rattle.ch_grid.specs.Points.{count}
 use Rattle.ch_rank.specs.declared.ranks.Rank.{Rank}

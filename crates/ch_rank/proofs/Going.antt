@@ -1,28 +1,27 @@
 -- What each round of a search keeps, from its opening to its end.
-use Rattle.std.proofs.Common.{◌≡◌, ◌≢◌, ℕ, zero, suc, ◌+◌, ◌-◌, ◌*◌, ◌^◌, ◌<◌, ◌≤◌, min, Bool, true, false, cond, eqb, nat_lt, ◌&&◌, not, List, [], ◌∷◌, ◌++◌, length, map, set, get_or, Option, Some, None, refl, sym, ap, ap₂, ◌∙◌, subst, arith, ◌⊎◌, inl, inr}
-use Rattle.std.specs.List.{All, list_all}
+use Rattle.std.proofs.Common.{◌≡◌, ℕ, zero, suc, ◌+◌, ◌-◌, ◌*◌, ◌^◌, ◌<◌, ◌≤◌, min, Bool, true, false, cond, eqb, nat_lt, List, [], ◌∷◌, length, set, get_or, Some, refl, sym, subst, arith, ◌⊎◌, inl, inr}
+use Rattle.std.specs.List.{All}
 use Rattle.std.proofs.lemmas.Bool.Decides.{nat_tests}
 use Rattle.std.proofs.lemmas.List.Elements.{All-head, All-tail, All-cons, All-nil, All-append, All-get_or}
-use Rattle.std.proofs.Math.Nat.{pow-suc}
-use Rattle.ch_grid.specs.Points.{is_point, count}
+use Rattle.ch_grid.specs.Points.{count}
 use Rattle.ch_rank.specs.declared.outcome.Outcome.{Outcome}
 use Rattle.ch_rank.specs.declared.outcome.Outcome.TheVariants.{Refused}
 use Rattle.ch_rank.specs.declared.outcome.Costed.{Costed}
 use Rattle.ch_rank.specs.declared.phase.Phase.{Phase}
 use Rattle.ch_rank.specs.declared.phase.Phase.TheVariants.{Start, Reflect, Try, Expand, Shrink, Probe, Converged}
-use Rattle.ch_rank.specs.Moves.{Point, moved, reflection, expansion, halfway, centre, around, in_turn, first_simplex, beside, near, width}
+use Rattle.ch_rank.specs.Moves.{Point, expansion, centre, around, in_turn, first_simplex, beside, near, width}
 use Rattle.ch_rank.specs.Trials.{mark}
-use Rattle.ch_rank.specs.Search.{Game, Known, costed, below, best, others, all_but, place_of_best, lowers, is_flat, enlisted, numbers, point_at, asks, move, moves, only, begins, begins_on, stepped, decides}
-use Rattle.ch_rank.proofs.Lists.{In, all_at, all_of, all_map, all_more, all_both, list_all_of, list_all_all}
-use Rattle.ch_rank.proofs.Table.{InGrid, few_trials}
-use Rattle.ch_rank.proofs.Moved.{moved_point, coordinate}
+use Rattle.ch_rank.specs.Search.{Game, Known, costed, below, best, others, all_but, place_of_best, lowers, is_flat, enlisted, numbers, move, moves, only}
+use Rattle.ch_rank.proofs.Lists.{In, all_map, all_more, all_both, list_all_of}
+use Rattle.ch_rank.proofs.Table.{InGrid}
+use Rattle.ch_rank.proofs.Moved.{coordinate}
 use Rattle.ch_rank.proofs.Beside.{set_point}
-use Rattle.ch_rank.proofs.Asking.{Keeps, none}
-use Rattle.ch_rank.proofs.Held.{Held, keeps_all, costed_held, best_held}
-use Rattle.ch_rank.proofs.Spread.{Within, AreSizes, within_half, within_one, within_self, within_grid}
-use Rattle.ch_rank.proofs.Least.{Steps, steps_more, steps_start, steps_shrink, steps_lower, steps_below, below_trans, below_self, best_keeps, best_lower}
-use Rattle.ch_rank.proofs.Outcomes.{below_le, not_trans, not_below_top, best_least, best_among, lowers_some, lowers_in, lowers_none, in_costed, costed_asked}
-use Rattle.ch_rank.proofs.Apart.{AreApart, enlisted_apart, asked_all, new_asked, asked_in, asked_marks, mark_of, one_trial, enlisted_long, numbers_long}
+use Rattle.ch_rank.proofs.Asking.{Keeps}
+use Rattle.ch_rank.proofs.Held.{Held}
+use Rattle.ch_rank.proofs.Spread.{Within, AreSizes, within_one, within_grid}
+use Rattle.ch_rank.proofs.Least.{Steps}
+use Rattle.ch_rank.proofs.Outcomes.{not_trans, in_costed}
+use Rattle.ch_rank.proofs.Apart.{AreApart, new_asked, one_trial}
 
 -- ---- points that a round asks for are in the grid
 

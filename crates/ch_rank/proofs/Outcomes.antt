@@ -1,5 +1,5 @@
 -- Rows of outcomes: the best one is not above any, and a row that lowers an outcome has one strictly below it.
-use Rattle.std.proofs.Common.{◌≡◌, ℕ, suc, ◌<◌, Bool, true, false, cond, nat_lt, ◌||◌, List, [], ◌∷◌, length, Option, Some, None, refl, sym, ap, ◌∙◌, subst, arith, ◌⊎◌, inl, inr}
+use Rattle.std.proofs.Common.{◌≡◌, ℕ, ◌<◌, Bool, true, false, cond, nat_lt, ◌||◌, List, [], ◌∷◌, length, Option, Some, None, refl, sym, ap, ◌∙◌, subst, arith, inl, inr}
 use Rattle.std.proofs.lemmas.Bool.Decides.{nat_tests}
 use Rattle.ch_rank.specs.declared.outcome.Outcome.{Outcome}
 use Rattle.ch_rank.specs.declared.outcome.Outcome.TheVariants.{Cost, Refused}

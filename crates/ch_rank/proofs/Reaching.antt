@@ -1,31 +1,27 @@
 -- Each round keeps what a search keeps, and what a step does to the least outcome.
-use Rattle.std.proofs.Common.{◌≡◌, ◌≢◌, ℕ, zero, suc, ◌+◌, ◌-◌, ◌*◌, ◌^◌, ◌<◌, ◌≤◌, Bool, true, false, cond, nat_lt, List, [], ◌∷◌, length, map, get_or, Option, Some, None, refl, sym, ap, ap₂, ◌∙◌, subst, arith, ◌⊎◌, inl, inr}
+use Rattle.std.proofs.Common.{◌≡◌, ◌≢◌, ℕ, zero, suc, ◌+◌, ◌-◌, ◌^◌, ◌<◌, ◌≤◌, Bool, true, false, List, [], ◌∷◌, length, map, get_or, Some, refl, sym, ap, ap₂, ◌∙◌, subst, arith, ◌⊎◌, inl, inr}
 use Rattle.std.specs.List.{All}
 use Rattle.std.proofs.lemmas.Bool.Decides.{nat_tests}
 use Rattle.std.proofs.lemmas.List.Elements.{All-cons, All-nil}
 use Rattle.std.proofs.Math.Nat.{pow-suc}
-use Rattle.ch_grid.specs.Points.{is_point, count}
 use Rattle.ch_rank.specs.declared.outcome.Outcome.{Outcome}
-use Rattle.ch_rank.specs.declared.outcome.Outcome.TheVariants.{Refused}
 use Rattle.ch_rank.specs.declared.outcome.Costed.{Costed}
 use Rattle.ch_rank.specs.declared.phase.Phase.{Phase}
-use Rattle.ch_rank.specs.declared.phase.Phase.TheVariants.{Start, Reflect, Try, Expand, Shrink, Probe, Converged}
-use Rattle.ch_rank.specs.Moves.{Point, moved, reflection, expansion, halfway, near}
+use Rattle.ch_rank.specs.declared.phase.Phase.TheVariants.{Reflect, Shrink, Probe, Converged}
+use Rattle.ch_rank.specs.Moves.{Point, moved, reflection, near}
 use Rattle.ch_rank.specs.Trials.{mark}
 use Rattle.ch_rank.specs.Course.{least}
-use Rattle.ch_rank.specs.Search.{Game, Known, costed, below, best, others, all_but, place_of_best, lowers, is_flat, enlisted, numbers, asks, move, moves, only, begins, begins_on, stepped, decides}
-use Rattle.ch_rank.proofs.Lists.{In, all_at, all_of, all_more, all_both}
-use Rattle.ch_rank.proofs.Table.{InGrid, few_trials}
+use Rattle.ch_rank.specs.Search.{Game, Known, costed, below, best, others, place_of_best, lowers, is_flat, enlisted, numbers, asks, move, moves, begins_on, stepped}
+use Rattle.ch_rank.proofs.Lists.{all_at, all_of, all_more}
+use Rattle.ch_rank.proofs.Table.{InGrid}
 use Rattle.ch_rank.proofs.Moved.{moved_point}
 use Rattle.ch_rank.proofs.Ranges.{costed_in, best_in, led_in}
 use Rattle.ch_rank.proofs.Rowing as rowing
-use Rattle.ch_rank.proofs.Asking.{Keeps}
-use Rattle.ch_rank.proofs.Held.{Held, keeps_all, costed_held, best_held, led_held}
-use Rattle.ch_rank.proofs.Spread.{Within, AreSizes, within_half, within_self}
-use Rattle.ch_rank.proofs.Least.{Steps, steps_more, steps_start, steps_shrink, steps_lower, steps_below, below_trans, below_self, best_keeps, best_lower}
-use Rattle.ch_rank.proofs.Outcomes.{below_le, below_asym, le_below, not_trans, not_below_top, best_least, best_among, lowers_some, lowers_in, lowers_none, lowers_long, in_costed, costed_asked}
-use Rattle.ch_rank.proofs.Apart.{AreApart, enlisted_apart, asked_all, new_asked, asked_in, asked_marks, mark_of, enlisted_long, numbers_long}
-use Rattle.ch_rank.proofs.Going.{Inside, Spread, spread_keeps, spread_grid, flat_of, at_point, all_but_all, moves_all, only_all, near_in, Above, Decided, decided_row, asks_decided, Base, aim, Turn, Going, Opened, Ended, Reached}
+use Rattle.ch_rank.proofs.Held.{Held, keeps_all, best_held, led_held}
+use Rattle.ch_rank.proofs.Spread.{Within, AreSizes, within_self}
+use Rattle.ch_rank.proofs.Least.{Steps, steps_more, steps_shrink, steps_lower, best_keeps, best_lower}
+use Rattle.ch_rank.proofs.Apart.{enlisted_apart, asked_all, asked_marks, enlisted_long, numbers_long}
+use Rattle.ch_rank.proofs.Going.{Inside, Spread, spread_keeps, spread_grid, flat_of, at_point, all_but_all, moves_all, near_in, Above, Decided, asks_decided, Base, aim, Turn, Going, Reached}
 
 -- ---- asking for points
 

@@ -1,5 +1,5 @@
 -- How far a point is from the best, coordinate by coordinate, and that a shrink halves it.
-use Rattle.std.proofs.Common.{◌≡◌, ℕ, ◌+◌, ◌-◌, ◌*◌, ◌<◌, ◌≤◌, min, max, true, nat_lt, List, [], ◌∷◌, refl, ap₂, arith}
+use Rattle.std.proofs.Common.{◌≡◌, ℕ, ◌+◌, ◌-◌, ◌*◌, ◌<◌, ◌≤◌, min, true, nat_lt, List, [], ◌∷◌, refl, ap₂, arith}
 use Rattle.ch_grid.specs.Points.{is_point}
 use Rattle.ch_grid.proofs.PointNumbers.{both, below_of}
 use Rattle.ch_rank.specs.Moves.{Point, moved, halfway}

@@ -1,5 +1,5 @@
 -- The first simplex, and a grid's sizes.
-use Rattle.std.proofs.Common.{◌≡◌, ℕ, zero, suc, ◌+◌, ◌-◌, ◌*◌, ◌/◌, ◌<◌, ◌≤◌, ◌^◌, max, Bool, true, false, nat_lt, ◌&&◌, List, [], ◌∷◌, ◌++◌, length, map, take, drop, set, get_or, replicate, Option, Some, None, refl, sym, ap, ap₂, ◌∙◌, subst, arith}
+use Rattle.std.proofs.Common.{◌≡◌, ℕ, zero, suc, ◌+◌, ◌-◌, ◌*◌, ◌/◌, ◌<◌, ◌≤◌, ◌^◌, Bool, true, false, nat_lt, ◌&&◌, List, [], ◌∷◌, ◌++◌, length, map, take, set, get_or, replicate, Option, None, refl, sym, ap, ap₂, ◌∙◌, subst, arith}
 use Rattle.std.specs.Prelude.{IfSome, slice_get}
 use Rattle.std.specs.List.{All}
 use Rattle.std.proofs.lemmas.Bool.Decides.{nat_tests}
@@ -12,7 +12,7 @@ use Rattle.ch_grid.specs.declared.param.Param.{Param}
 use Rattle.ch_grid.specs.Grid.{size, sizes}
 use Rattle.ch_grid.specs.Points.{count, is_point, number}
 use Rattle.ch_grid.proofs.Sizes.{size_some, no_param, count_all}
-use Rattle.ch_rank.specs.Moves.{Point, centre}
+use Rattle.ch_rank.specs.Moves.{centre}
 use Rattle.ch_rank.specs.Bound.{greatest}
 use Rattle.ch_rank.specs.Trials.{AreTrials}
 use Rattle.ch_rank.specs.Bound.{bound}
@@ -23,7 +23,6 @@ use Rattle.ch_rank.specs.declared.outcome.Costed.{Costed}
 use Rattle.ch_rank.proofs.Entering.{opening_waits, unknown, none_legal}
 use Rattle.ch_grid.specs.Grid.{is_within}
 use Rattle.ch_grid.proofs.Sizes.{within_facts}
-use Rattle.ch_grid.proofs.PointNumbers.{number_below}
 use Rattle.std.specs.List.{IsDistinct}
 use Rattle.ch_rank.specs.Moves.{same_point}
 

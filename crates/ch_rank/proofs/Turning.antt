@@ -1,5 +1,5 @@
 -- A loop that asks for what a rule gives for each coordinate in turn.
-use Rattle.std.proofs.Common.{◌≡◌, ℕ, zero, suc, ◌+◌, ◌-◌, ◌*◌, ◌<◌, ◌≤◌, List, [], ◌∷◌, ◌++◌, length, take, refl, sym, ap, ◌∙◌, subst, arith, length-append}
+use Rattle.std.proofs.Common.{◌≡◌, ℕ, suc, ◌+◌, ◌-◌, ◌*◌, ◌<◌, ◌≤◌, List, [], ◌∷◌, ◌++◌, length, take, refl, sym, ap, ◌∙◌, subst, arith, length-append}
 use Rattle.ch_rank.specs.Moves.{Point, in_turn, around, centre, first_simplex}
 use Rattle.ch_rank.specs.Trials.{with_point}
 use Rattle.ch_rank.specs.Board.{ask_one, finish}

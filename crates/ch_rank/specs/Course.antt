@@ -1,9 +1,8 @@
 -- The course of a search: what its steps do to the least outcome, and what holds at its end.
-use Rattle.std.specs.Prelude.{◌≡◌, ◌≢◌, ℕ, ◌+◌, ◌<◌, ◌≤◌, true, false, List, [], length, slice_index_or, Option, Some}
+use Rattle.std.specs.Prelude.{◌≡◌, ◌≢◌, ℕ, ◌+◌, ◌<◌, ◌≤◌, true, false, Some}
 use Rattle.std.specs.List.{All}
 use Rattle.ch_grid.specs.Grid.{sizes}
 use Rattle.ch_rank.specs.declared.outcome.Outcome.{Outcome}
-use Rattle.ch_rank.specs.declared.outcome.Costed.{Costed}
 use Rattle.ch_rank.specs.declared.phase.Phase.TheVariants.{Shrink, Converged}
 use Rattle.ch_rank.specs.Moves.{Point, near}
 use Rattle.ch_rank.specs.Bound.{greatest, halvings}

@@ -1,4 +1,4 @@
-use Rattle.std.proofs.Common.{arith, ◌∙◌, ◌++◌, ◌∷◌, []}
+use Rattle.std.proofs.Common.{arith, ◌∙◌}
 use Rattle.ch_rank.proofs.Starting.{sizes_more}
 use Rattle.ch_rank.proofs.trials.sizes_of.Goals as goal
 

@@ -1,6 +1,6 @@
-use Rattle.std.proofs.Common.{◌≡◌, ◌<◌, ℕ, List, length, take, get_or, ap, ◌∙◌, sym, subst, arith}
+use Rattle.std.proofs.Common.{ℕ, List, get_or, ap, ◌∙◌, arith}
 use Rattle.ch_rank.specs.Search.{Game}
-use Rattle.ch_rank.proofs.Beside.{index_of, index_small, size_small}
+use Rattle.ch_rank.proofs.Beside.{index_of, size_small}
 use Rattle.ch_rank.proofs.game.Game.ask_around.Goals as goal
 
 pub clamped_sum-requires-clause-index : goal.clamped_sum-requires-clause-index

@@ -1,8 +1,8 @@
-use Rattle.std.proofs.Common.{◌≡◌, ℕ, List, [], length, take, refl, ap, sym, ◌∙◌, arith}
-use Rattle.ch_rank.specs.Moves.{Point, around, centre, in_turn, first_simplex}
-use Rattle.ch_rank.specs.Board.{finish, ask_one}
-use Rattle.ch_rank.specs.Search.{Game, asks}
-use Rattle.ch_rank.proofs.Turning.{turning_more, turning_end, first_asked}
+use Rattle.std.proofs.Common.{◌≡◌, ℕ, List, length, take, ap, sym, ◌∙◌, arith}
+use Rattle.ch_rank.specs.Moves.{around, centre}
+use Rattle.ch_rank.specs.Board.{finish}
+use Rattle.ch_rank.specs.Search.{Game}
+use Rattle.ch_rank.proofs.Turning.{turning_more, first_asked}
 use Rattle.ch_rank.proofs.game.Game.ask_first.Goals as goal
 
 pub loop-k-preserved : goal.loop-k-preserved

@@ -1,4 +1,4 @@
-use Rattle.std.proofs.Common.{◌≤◌, length, ◌-◌, subst, sym, ap, arith, vec_len, vec_capacity}
+use Rattle.std.proofs.Common.{◌≤◌, length, ◌-◌, subst, sym, arith, vec_len, vec_capacity}
 use Rattle.ch_grid.specs.Grid.{sizes}
 use Rattle.ch_rank.specs.Search.{Game}
 use Rattle.ch_rank.specs.Board.{IsRound}

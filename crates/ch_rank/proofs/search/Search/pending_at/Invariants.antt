@@ -1,4 +1,4 @@
-use Rattle.std.proofs.Common.{◌≡◌, ◌≤◌, ◌+◌, ◌-◌, length}
+use Rattle.std.proofs.Common.{◌≤◌, ◌-◌, length}
 use Rattle.ch_rank.specs.Entries.{known, played, pending}
 use Rattle.ch_rank.proofs.Waiting.{IsAt}
 use Rattle.ch_rank.proofs.search.Search.pending_at.Given as goal

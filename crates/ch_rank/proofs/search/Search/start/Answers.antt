@@ -1,4 +1,4 @@
-use Rattle.std.proofs.Common.{◌≤◌, length, subst, ℕ, List, ap, sym, ◌∙◌, arith, rules}
+use Rattle.std.proofs.Common.{◌≤◌, length, subst, ap, sym, ◌∙◌, arith, rules}
 use Rattle.ch_rank.specs.Bound.{greatest}
 use Rattle.ch_rank.specs.Search.{Game}
 use Rattle.ch_grid.specs.Points.{count}

@@ -1,4 +1,4 @@
-use Rattle.std.proofs.Common.{◌≤◌, ◌<◌, ◌-◌, arith, vec_len, vec_capacity}
+use Rattle.std.proofs.Common.{◌-◌, arith, vec_len, vec_capacity}
 use Rattle.ch_rank.proofs.Ending.{falls}
 use Rattle.ch_rank.proofs.Finding.{steps_now}
 use Rattle.ch_rank.proofs.search.Search.steps.Goals as goal

@@ -1,7 +1,6 @@
-use Rattle.std.proofs.Common.{◌≤◌, length, map, take, arith, subst}
+use Rattle.std.proofs.Common.{◌≤◌, length, map, take, subst}
 use Rattle.ch_grid.specs.Points.{count}
 use Rattle.ch_rank.specs.Trials.{Listed}
-use Rattle.std.proofs.lemmas.List.{length-map}
 use Rattle.ch_rank.proofs.Table.{few_trials}
 use Rattle.ch_rank.proofs.trials.Trials.sizes.Goals as goal
 

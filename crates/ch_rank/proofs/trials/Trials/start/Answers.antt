@@ -1,4 +1,4 @@
-use Rattle.std.proofs.Common.{◌≡◌, length, map, take, List, ℕ, sym, ap, ◌∙◌, arith, vec_capacity, rules}
+use Rattle.std.proofs.Common.{arith, vec_capacity, rules}
 use Rattle.ch_rank.proofs.Starting.{no_trials}
 use Rattle.ch_rank.proofs.trials.Trials.start.Goals as goal
 
