@@ -1,0 +1,7 @@
+use Rattle.std.proofs.Common.{◌≡◌, take, ◌≤◌}
+use Rattle.ch_grid.specs.Grid.{sizes}
+use Rattle.ch_grid.specs.Points.{count}
+use Rattle.ch_grid.proofs.grid.has_many.Given as goal
+
+abbrev pub invariant-loop-param : goal.invariant-loop-param
+invariant-loop-param l = (l.points ≡ count (sizes (take l.param-index l.params))) × (l.points ≤ 65536)

@@ -1,0 +1,10 @@
+pub mod Moves
+pub mod Trials
+pub mod Bound
+pub mod Search
+pub mod Rules
+pub mod Board
+pub mod Leads
+pub mod Ranks
+pub mod Entries
+pub mod Course
