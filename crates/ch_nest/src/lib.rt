@@ -17,3 +17,6 @@ pub use fills::filled;
 pub use nest::{Access, ArrayDecl, Body, Expr, Fill, Item, Nest, Sub};
 pub use run::run_nest;
 pub use walk::is_sound;
+
+#[cfg(test)]
+mod tests;
