@@ -1,21 +1,19 @@
 -- The least and the greatest value of a form over boxes.
-use Rattle.std.proofs.Common.{◌≡◌, ℕ, zero, suc, ◌+◌, ◌-◌, ◌*◌, ◌<◌, ◌≤◌, ◌^◌, unsigned_abs, ℤ, pos, negsuc, ◌+ℤ◌, ◌-ℤ◌, ◌*ℤ◌, ◌≤ℤ◌, int_lt, int_le, Bool, true, false, ◌&&◌, List, [], ◌∷◌, ◌++◌, map, get_or, take, drop, length, arith, ap, sym, ◌∙◌, refl}
+use Rattle.std.proofs.Common.{◌≡◌, ℕ, suc, ◌-◌, ◌*◌, ◌≤◌, ◌^◌, unsigned_abs, ℤ, pos, negsuc, ◌+ℤ◌, ◌-ℤ◌, ◌*ℤ◌, ◌≤ℤ◌, int_lt, int_le, Bool, true, false, ◌&&◌, List, [], ◌∷◌, ◌++◌, map, get_or, take, drop, length, arith, ap, ◌∙◌, refl}
 use Rattle.std.specs.Bool.{IsTrue}
-use Rattle.std.specs.Int.{int_max, int_min}
 use Rattle.std.specs.List.{All, list_all}
 use Rattle.std.proofs.lemmas.Bool.{and_parts, eqb-true, leb-true}
 use Rattle.std.proofs.lemmas.Bool.Decides.{nat_tests}
 use Rattle.std.proofs.lemmas.Int.{ints, clamps}
 use Rattle.std.proofs.lemmas.List.Elements.{All-nil, All-cons, All-head, All-tail}
-use Rattle.std.proofs.Math.IntN.{*ℤ_comm, pos-*ℤ-pos, negsuc-*ℤ-pos, neg_ℤ}
+use Rattle.std.proofs.Math.IntN.{pos-*ℤ-pos, negsuc-*ℤ-pos, neg_ℤ}
 use Rattle.ch_affine.specs.Affine.{value, dot, IsAtMost}
 use Rattle.ch_affine.specs.Form.{Form}
 use Rattle.ch_affine.specs.Rows.{lies_in}
 use Rattle.ch_affine.specs.declared.system.Range.{Range}
 use Rattle.ch_affine.proofs.Integers.{times_plus}
-use Rattle.ch_nest.specs.Limits.{most_affine}
-use Rattle.ch_nest.specs.Run.{greatest, least, low_of, high_of}
-use Rattle.ch_nest.specs.Shape.{coefs_fit, is_at_most, least_term, least_sum, least_in, low_end, greatest_term, greatest_sum, greatest_in, high_end, box_of, is_small, IsSmall}
+use Rattle.ch_nest.specs.Run.{least, low_of, high_of}
+use Rattle.ch_nest.specs.Shape.{coefs_fit, least_term, least_sum, least_in, low_end, greatest_term, greatest_sum, greatest_in, IsSmall}
 use Rattle.ch_nest.proofs.Rests.{rest-cons}
 
 abbrev pub origin : Range

@@ -1,5 +1,5 @@
 -- Items that are judged one after another.
-use Rattle.std.proofs.Common.{◌≡◌, ℕ, zero, suc, ◌+◌, ◌<◌, ◌≤◌, Bool, true, false, ◌&&◌, ◌||◌, nat_lt, map, ap, ◌∙◌, ◌++◌, Option, Some, None, List, [], ◌∷◌, get_or, drop, length, arith, sym, refl, ◌↔◌}
+use Rattle.std.proofs.Common.{◌≡◌, ℕ, ◌+◌, ◌<◌, Bool, true, false, ◌&&◌, ◌||◌, nat_lt, map, ap, ◌∙◌, ◌++◌, Option, Some, None, List, [], ◌∷◌, get_or, drop, length, arith, sym, refl, ◌↔◌}
 use Rattle.std.specs.Bool.{IsTrue}
 use Rattle.std.specs.List.{list_all}
 use Rattle.std.proofs.lemmas.Bool.{and_parts, false≢true, lt-ltb, ltb-true}

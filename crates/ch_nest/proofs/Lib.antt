@@ -5,6 +5,7 @@ pub mod Places
 pub mod Rests
 pub mod Runs
 pub mod Signed
+pub mod Sounds
 pub mod StartCells
 pub mod Turns
 pub mod Walks

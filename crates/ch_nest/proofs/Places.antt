@@ -1,7 +1,7 @@
 -- Where cells lie.
-use Rattle.std.proofs.Common.{◌≡◌, ℕ, zero, suc, ◌+◌, ◌-◌, ◌*◌, ◌<◌, ◌≤◌, ℤ, pos, ◌≤ℤ◌, ◌<ℤ◌, int_lt, not, ◌&&◌, Bool, true, false, nat_le, List, [], ◌∷◌, map, get_or, take, drop, length, arith, subst, sym, ap, refl, Option, Some, None}
+use Rattle.std.proofs.Common.{◌≡◌, ℕ, zero, suc, ◌+◌, ◌-◌, ◌*◌, ◌<◌, ◌≤◌, ℤ, pos, ◌≤ℤ◌, ◌<ℤ◌, int_lt, not, ◌&&◌, Bool, true, nat_le, List, [], ◌∷◌, map, get_or, take, drop, length, arith, sym, ap, refl, Some}
 use Rattle.std.specs.Bool.{IsTrue}
-use Rattle.std.specs.List.{All, list_all, slice_get}
+use Rattle.std.specs.List.{list_all, slice_get}
 use Rattle.std.proofs.Math.Nat.{one-le-mul, mul-le-mul_right, mul_assoc, le-mul_of_pos_right}
 use Rattle.std.proofs.lemmas.Bool.{and_parts, leb-true, eqb-true}
 use Rattle.std.proofs.lemmas.Int.{ints}
@@ -13,7 +13,7 @@ use Rattle.ch_nest.specs.declared.nest.ArrayDecl.{ArrayDecl}
 use Rattle.ch_nest.specs.declared.nest.Sub.{Sub}
 use Rattle.ch_nest.specs.Arrays.{cells_in, row_major, total, within}
 use Rattle.ch_nest.specs.Run.{modulo, place, sub_value, subscripts}
-use Rattle.ch_nest.specs.Shape.{access_fits, arrays_fit, coefs_fit, form_fits, has_dimensions, is_array, sub_fits}
+use Rattle.ch_nest.specs.Shape.{access_fits, arrays_fit, has_dimensions, is_array, sub_fits}
 use Rattle.ch_nest.specs.Sound.{access_inside}
 use Rattle.ch_nest.proofs.Rests.{rest-cons}
 

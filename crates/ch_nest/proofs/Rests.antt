@@ -1,5 +1,5 @@
 -- What holds of a list holds of what follows its first element, as a slice's pattern gives it.
-use Rattle.std.proofs.Common.{◌≡◌, ℕ, zero, suc, refl, sub-one, ◌+◌, ◌-◌, ◌≤◌, ℤ, Bool, List, [], ◌∷◌, take, drop, length, map, arith}
+use Rattle.std.proofs.Common.{◌≡◌, ◌-◌, Bool, List, [], ◌∷◌, take, drop, length, arith}
 use Rattle.std.specs.Bool.{IsTrue}
 use Rattle.std.specs.List.{All, list_all}
 use Rattle.std.proofs.lemmas.Bool.{and_parts}

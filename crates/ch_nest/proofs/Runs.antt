@@ -1,5 +1,5 @@
 -- Items and turns, one step on.
-use Rattle.std.proofs.Common.{◌≡◌, ℕ, zero, suc, ◌+◌, ◌<◌, ◌≤◌, map, set, length, ℤ, pos, ◌+ℤ◌, Bool, ◌&&◌, nat_le, List, [], ◌∷◌, ◌++◌, get_or, drop, arith, inl, inr, ap, sym, ◌∙◌}
+use Rattle.std.proofs.Common.{◌≡◌, ℕ, zero, suc, ◌+◌, ◌<◌, map, set, length, ℤ, pos, ◌+ℤ◌, Bool, ◌&&◌, List, [], ◌∷◌, ◌++◌, get_or, drop, arith, inl, inr, ap, sym, ◌∙◌}
 use Rattle.std.specs.Bool.{IsTrue}
 use Rattle.std.proofs.lemmas.Bool.{and_parts, cases_lt}
 use Rattle.std.proofs.lemmas.List.{drop_more}
@@ -16,7 +16,6 @@ use Rattle.ch_nest.specs.Run.{Change, run_item, run_items, item_step, turns, cou
 use Rattle.ch_nest.specs.Shape.{access_fits, arrays_fit, body_fits, expr_fits, is_nest, items_fit, all_numbered, parts_fit}
 use Rattle.ch_nest.specs.Sound.{Check, access_inside, each_turn, expr_inside, inside_step, item_inside, items_inside}
 use Rattle.std.specs.Prelude.{is_some}
-use Rattle.std.specs.List.{All}
 use Rattle.ch_nest.specs.Shape.{IsSmall}
 use Rattle.std.proofs.lemmas.List.Elements.{All-nil}
 use Rattle.std.proofs.Common.{refl, add-one}

@@ -1,9 +1,8 @@
 -- A loop's turns: each is at a point of the boxes of the loops around, and the items below it are in order there.
-use Rattle.std.proofs.Common.{◌≡◌, ℕ, zero, suc, ◌+◌, ◌-◌, ◌<◌, ◌≤◌, ◌^◌, unsigned_abs, map, ℤ, pos, ◌+ℤ◌, ◌≤ℤ◌, Bool, true, false, ◌&&◌, nat_lt, List, [], ◌∷◌, ◌++◌, get_or, drop, length, arith, ap, sym, ◌∙◌, inl, inr}
+use Rattle.std.proofs.Common.{◌≡◌, ℕ, zero, suc, ◌<◌, ◌≤◌, ◌^◌, unsigned_abs, map, ℤ, pos, ◌+ℤ◌, ◌≤ℤ◌, true, ◌&&◌, nat_lt, List, [], ◌∷◌, ◌++◌, get_or, length, arith, ap, sym, ◌∙◌}
 use Rattle.std.specs.Bool.{IsTrue}
-use Rattle.std.specs.Int.{int_max}
 use Rattle.std.specs.List.{All, list_all}
-use Rattle.std.proofs.lemmas.Bool.{and_parts, eqb-true, leb-true, ltb-true}
+use Rattle.std.proofs.lemmas.Bool.{and_parts, eqb-true, leb-true}
 use Rattle.std.proofs.lemmas.Int.{ints, clamps}
 use Rattle.ch_affine.specs.Affine.{IsAtMost}
 use Rattle.ch_affine.specs.Form.{Form}
@@ -12,15 +11,14 @@ use Rattle.ch_affine.specs.declared.system.Range.{Range}
 use Rattle.ch_nest.specs.declared.nest.ArrayDecl.{ArrayDecl}
 use Rattle.ch_nest.specs.declared.nest.Body.{Body}
 use Rattle.ch_nest.specs.declared.nest.Item.{Item}
-use Rattle.ch_nest.specs.declared.nest.Item.TheVariants.{Loop, Assign, rolls-Loop, rolls-Assign}
+use Rattle.ch_nest.specs.declared.nest.Item.TheVariants.{Loop, Assign, rolls-Assign}
 use Rattle.ch_nest.specs.declared.nest.Item.TheFolds.{fold-roll-Item}
 use Rattle.ch_nest.specs.declared.nest.Item.TheOpen.{Item-F}
 use Rattle.ch_nest.specs.At.{AreAt, IsAt}
-use Rattle.ch_nest.specs.Limits.{deepest}
-use Rattle.ch_nest.specs.Run.{count, low_of, high_of, least}
-use Rattle.ch_nest.specs.Shape.{Test, body_fits, box_of, coefs_fit, greatest_in, head_fits, high_end, is_small, item_fits, item_fits_step, items_fit, low_end, IsSmall}
+use Rattle.ch_nest.specs.Run.{count, low_of, high_of}
+use Rattle.ch_nest.specs.Shape.{Test, body_fits, box_of, coefs_fit, head_fits, high_end, is_small, item_fits, item_fits_step, items_fit, low_end, IsSmall}
 use Rattle.ch_nest.proofs.Corners.{lies_length, lies_push, lies_small, low_above, high_below}
-use Rattle.ch_nest.proofs.Fits.{head_depth, head_lows, head_highs, loop_fits_is}
+use Rattle.ch_nest.proofs.Fits.{head_lows, head_highs, loop_fits_is}
 use Rattle.std.proofs.lemmas.List.Elements.{All-push}
 
 pub form_coefs : (n : ℕ) (fs : List Form) (k : ℕ) (d : Form) → k < length fs → IsTrue (list_all (coefs_fit n) fs) → n ≡ length (get_or fs k d).coefs

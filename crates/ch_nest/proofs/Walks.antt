@@ -1,5 +1,5 @@
 -- A walk that counts turns and instances and judges subscripts, one step on.
-use Rattle.std.proofs.Common.{◌≡◌, ℕ, zero, suc, ◌+◌, ◌-◌, ◌<◌, ◌≤◌, nat_le, ℤ, pos, ◌+ℤ◌, Bool, true, false, ◌&&◌, Option, Some, None, List, [], ◌∷◌, ◌++◌, map, get_or, drop, length, arith, inl, inr, sym, ap, ◌∙◌, add-one, refl}
+use Rattle.std.proofs.Common.{◌≡◌, ℕ, zero, suc, ◌+◌, ◌-◌, ◌<◌, ◌≤◌, ℤ, pos, ◌+ℤ◌, Bool, true, false, ◌&&◌, Option, Some, None, List, [], ◌∷◌, ◌++◌, get_or, drop, length, arith, inl, inr, sym, ap, ◌∙◌, add-one, refl}
 use Rattle.std.specs.Bool.{IsTrue}
 use Rattle.std.specs.List.{list_all}
 use Rattle.std.proofs.lemmas.Bool.{and_parts, cases_lt}
@@ -12,10 +12,9 @@ use Rattle.ch_nest.specs.declared.nest.Body.{Body}
 use Rattle.ch_nest.specs.declared.nest.Item.{Item}
 use Rattle.ch_nest.specs.declared.nest.Item.TheVariants.{Loop, Assign, rolls-Loop, rolls-Assign}
 use Rattle.ch_nest.specs.declared.nest.Item.TheFolds.{fold-roll-Item}
-use Rattle.ch_nest.specs.declared.nest.Item.TheOpen.{Item-F}
 use Rattle.ch_nest.specs.Run.{count, low_of, high_of}
 use Rattle.ch_nest.specs.Shape.{access_fits, has_dimensions, sub_fits}
-use Rattle.ch_nest.specs.Sound.{Check, Measure, access_inside, each_turn, expr_inside, inside_step, item_inside, item_work, items_inside, items_work, left_of, turns_work, work_step}
+use Rattle.ch_nest.specs.Sound.{Measure, access_inside, each_turn, expr_inside, item_inside, item_work, items_inside, items_work, left_of, turns_work, work_step}
 use Rattle.ch_nest.proofs.Runs.{inside_loop_is, inside_assign_is}
 
 pub subs_of : (arrays : List ArrayDecl) (n : ℕ) (a : Access) → IsTrue (access_fits arrays n a) → IsTrue (list_all (sub_fits n) a.subs)

@@ -17,7 +17,7 @@ use Rattle.ch_nest.specs.declared.nest.Item.TheFolds.{fold-Item}
 use Rattle.ch_nest.specs.declared.nest.Sub.{Sub}
 use Rattle.ch_nest.specs.declared.exprs.Standing.{Standing}
 use Rattle.ch_nest.specs.declared.exprs.Standing.TheVariants.{Term, Factor, Operand}
-use Rattle.ch_nest.specs.Arrays.{cells_in, total}
+use Rattle.ch_nest.specs.Arrays.{total}
 use Rattle.ch_nest.specs.Limits.{deepest, most_statements, most_operands, most_nesting, most_forms, most_affine, most_number, most_dimensions, most_cells}
 use Rattle.ch_nest.specs.LoopNest.{LoopNest}
 use Rattle.ch_nest.specs.Run.{greatest, least}

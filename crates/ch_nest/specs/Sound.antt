@@ -1,5 +1,5 @@
 -- A nest that can be run: it does not take too many turns, and no subscript leaves its array.
-use Rattle.std.specs.Prelude.{◌≡◌, ℕ, zero, suc, ◌+◌, ◌-◌, ◌≤◌, ℤ, pos, ◌+ℤ◌, Bool, true, false, ◌&&◌, nat_le, IsTrue, if◌then◌else◌, Option, Some, None, List, [], ◌∷◌, ◌++◌, map}
+use Rattle.std.specs.Prelude.{ℕ, zero, suc, ◌+◌, ◌-◌, ◌≤◌, ℤ, pos, ◌+ℤ◌, Bool, true, ◌&&◌, nat_le, IsTrue, if◌then◌else◌, Option, Some, None, List, [], ◌∷◌, ◌++◌, map}
 use Rattle.ch_nest.specs.declared.nest.Access.{Access}
 use Rattle.ch_nest.specs.declared.nest.ArrayDecl.{ArrayDecl}
 use Rattle.ch_nest.specs.declared.nest.Expr.{Expr}

@@ -18,3 +18,6 @@ pub use nest::{Access, ArrayDecl, Body, Expr, Fill, Item, Nest, Sub};
 pub use place::cells_in;
 pub use run::run_nest;
 pub use walk::is_sound;
+
+#[cfg(test)]
+mod tests;

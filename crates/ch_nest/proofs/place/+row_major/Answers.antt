@@ -1,4 +1,4 @@
-use Rattle.std.proofs.Common.{rules, ◌≤◌, ◌^◌, nat_le, length}
+use Rattle.std.proofs.Common.{rules, ◌^◌, nat_le, length}
 use Rattle.ch_nest.specs.Shape.{sub_fits}
 use Rattle.ch_nest.proofs.Places.{rest_room, rest_within}
 use Rattle.ch_nest.proofs.Rests.{all_rest}

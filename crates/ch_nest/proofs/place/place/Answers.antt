@@ -1,6 +1,4 @@
-use Rattle.std.proofs.Common.{◌+◌, arith, ap, ◌∙◌}
-use Rattle.ch_nest.specs.Arrays.{row_major}
-use Rattle.ch_nest.specs.Run.{subscripts}
+use Rattle.std.proofs.Common.{arith}
 use Rattle.ch_nest.proofs.Places.{reached}
 use Rattle.ch_nest.proofs.place.place.Goals as goal
 

@@ -1,7 +1,6 @@
-use Rattle.std.proofs.Common.{◌≡◌, ◌++◌, ◌∷◌, [], ◌+◌, ◌<◌, ◌+ℤ◌, pos, take, length, rules, SFits, w64, arith, sym}
+use Rattle.std.proofs.Common.{length, rules, SFits, w64, arith}
 use Rattle.std.specs.Int.{w128}
 use Rattle.std.proofs.lemmas.Int.{to_z-of_z}
-use Rattle.ch_nest.specs.Run.{count, high_of, low_of}
 use Rattle.ch_nest.specs.declared.nest.Item.TheViews.{the_lemmas}
 use Rattle.ch_nest.proofs.Fits.{head_depth, head_lows, head_highs}
 use Rattle.ch_nest.proofs.Runs.{inside_at, run_loop, run_turn, turn_inside}

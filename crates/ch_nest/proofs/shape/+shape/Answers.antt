@@ -1,4 +1,4 @@
-use Rattle.std.proofs.Common.{rules, ◌∷◌, ◌++◌, [], ◌<◌, ◌+◌, arith, length, length-append, sym}
+use Rattle.std.proofs.Common.{rules, ◌<◌, arith, length, length-append, sym}
 use Rattle.std.proofs.lemmas.List.Elements.{All-push}
 use Rattle.ch_nest.specs.Limits.{deepest}
 use Rattle.ch_nest.specs.Shape.{IsSmall}

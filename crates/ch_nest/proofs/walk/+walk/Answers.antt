@@ -1,8 +1,7 @@
-use Rattle.std.proofs.Common.{◌≡◌, ◌++◌, ◌∷◌, [], ◌+◌, ◌<◌, ◌+ℤ◌, pos, take, length, rules, SFits, w64, arith, sym, Some, None}
+use Rattle.std.proofs.Common.{◌++◌, ◌∷◌, [], ◌+◌, ◌+ℤ◌, pos, take, length, rules, SFits, w64, arith, sym, Some, None}
 use Rattle.std.specs.Int.{w128}
 use Rattle.std.proofs.lemmas.Int.{to_z-of_z}
-use Rattle.ch_nest.specs.Run.{count, high_of, low_of}
-use Rattle.ch_nest.specs.Sound.{each_turn, items_inside, items_work, left_of, turns_work}
+use Rattle.ch_nest.specs.Sound.{items_inside, items_work}
 use Rattle.ch_nest.specs.declared.nest.Item.TheViews.{the_lemmas}
 use Rattle.ch_nest.proofs.Fits.{head_depth, head_lows, head_highs}
 use Rattle.ch_nest.proofs.Turns.{body_at, ends_small, item_at, loop_at, nth_in_order, point_small, turn_at}
