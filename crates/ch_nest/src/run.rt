@@ -186,7 +186,7 @@ fn assign(arrays: &[ArrayDecl], body: &Body, point: &[i64], cells: &mut [i64])
 
 /// Runs a sound nest once in program order. `cells` are those of its arrays one after another, each in row-major order.
 ///
-/// This is the meaning of a nest; [`perform`](crate::perform) has the same result and is faster.
+/// The result is the nest's sequential meaning.
 pub fn run_nest(nest: &Nest, cells: &mut List<i64>)
     requires size { length cells.old ≡ total nest.now.arrays }
     requires inside { IsTrue (items_inside nest.now.arrays nest.now.items []) }

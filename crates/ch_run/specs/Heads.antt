@@ -71,11 +71,14 @@ array_at bytes d ts = do
   name ← fresh_at bytes d.names word
   extents ← extents_at bytes d.names name.1
   fill ← fill_at bytes extents.1
-  where_true (nat_lt (length d.arrays) most_cells) (λ _. Some (record {
-    names = d.names ++ (name.0, Array (length d.arrays)) ∷ [];
-    arrays = d.arrays ++ record { name = name.0; extents = extents.0 } ∷ [];
-    fills = d.fills ++ fill.0 ∷ [];
-  }, fill.1))
+  where_true (nat_lt (length d.arrays) most_cells) (λ _. Some (
+    record {
+      names = d.names ++ (name.0, Array (length d.arrays)) ∷ [];
+      arrays = d.arrays ++ record { name = name.0; extents = extents.0 } ∷ [];
+      fills = d.fills ++ fill.0 ∷ [];
+    },
+    fill.1,
+  ))
 
 abbrev pub begins_array : List ℕ → List Token → Bool
 begins_array bytes ts = begins bytes words.Array ts

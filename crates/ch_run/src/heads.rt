@@ -163,7 +163,9 @@ fn array<'a>(
         return Err(Unread::Refused);
     }
     let name = Text::of(alloc, text)?;
-    declared.names.push(alloc, text, Named::Array(number as u32))?;
+    declared
+        .names
+        .push(alloc, text, Named::Array(number as u32))?;
     declared.arrays.push(ArrayDecl { name, extents })?;
     declared.fills.push(fill)?;
     Ok(rest)

@@ -219,14 +219,10 @@ fn body<'a>(
     let found = List::new(alloc);
     if next_is(bytes, Sign::LeftBrace, tokens) {
         let inside = after(tokens);
-        let (found, label, rest) = item(
-            alloc, bytes, names, levels, deeper, found, label, inside,
-        )?;
+        let (found, label, rest) = item(alloc, bytes, names, levels, deeper, found, label, inside)?;
         items(alloc, bytes, names, levels, deeper, found, label, rest)
     } else {
-        item(
-            alloc, bytes, names, levels, deeper, found, label, tokens,
-        )
+        item(alloc, bytes, names, levels, deeper, found, label, tokens)
     }
 }
 
@@ -290,7 +286,14 @@ fn item<'a>(
         }
         let inside = after(tokens);
         looped(
-            alloc, bytes, names, levels, deeper - 1, found, label, inside,
+            alloc,
+            bytes,
+            names,
+            levels,
+            deeper - 1,
+            found,
+            label,
+            inside,
         )
     } else {
         assign(alloc, bytes, names, levels, found, label, tokens)

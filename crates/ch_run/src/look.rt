@@ -137,11 +137,7 @@ pub(crate) fn begins(bytes: &[u8], keyword: Keyword, tokens: &[Token]) -> bool
 
 /// The tokens after this sign.
 #[tactic(auto, unfolding(crate::specs::Read::sign_at))]
-pub(crate) fn sign<'a>(
-    bytes: &[u8],
-    sign: Sign,
-    tokens: &'a [Token],
-) -> Result<&'a [Token], Unread>
+pub(crate) fn sign<'a>(bytes: &[u8], sign: Sign, tokens: &'a [Token]) -> Result<&'a [Token], Unread>
     ensures { Gives (λ r. r.now) result (sign_at bytes.now sign tokens.now) }
 {
     if next_is(bytes, sign, tokens) {
@@ -184,10 +180,7 @@ pub(crate) fn name<'a, 'b>(
 
 /// A number, and the tokens after it.
 #[tactic(auto, unfolding(crate::specs::Read::number_at))]
-pub(crate) fn number<'a>(
-    bytes: &[u8],
-    tokens: &'a [Token],
-) -> Result<(u32, &'a [Token]), Unread>
+pub(crate) fn number<'a>(bytes: &[u8], tokens: &'a [Token]) -> Result<(u32, &'a [Token]), Unread>
     ensures { Gives (λ r. (r.0, r.1.now)) result (number_at bytes.now tokens.now) }
 {
     match seen(bytes, tokens) {

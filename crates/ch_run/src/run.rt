@@ -27,7 +27,8 @@ fn write_usage<K: Sink>(sink: &mut K) -> u8
     ensures part { result ≡ 4 → AppendsPart (K.taken sink.old) (K.taken sink.new) usage }
     ensures cause { result ≡ 4 → HasRisen (K.faults sink.old) (K.faults sink.new) }
 {
-    let line = b"usage: chilltune eval|check|show|search|run|replay|demo [--at V,V] [--builders N] [--arrays all|sum] [--number N]\n";
+    let line =
+        b"usage: chilltune eval|check|show|search|run|replay|demo [--at V,V] [--builders N] [--arrays all|sum] [--number N]\n";
     match write_all(sink, line) {
         Ok(()) => 2,
         Err(_) => 4,

@@ -144,7 +144,10 @@ fn other_words_give_the_usage_line(rt: HostRuntime) -> Result<(), Fail> {
         let mut source = MemSource::new(PRODUCT.to_vec(alloc)?, 64, Vec::new(alloc));
         let mut sink = MemSink::new(alloc, 4096, 4096, Vec::new(alloc))?;
         let status = top(&rt, alloc, &words, &mut source, &mut sink, &NoGate);
-        assert_eq!(rt; sink.taken(), b"usage: chilltune eval|check|show|search|run|replay|demo [--at V,V] [--builders N] [--arrays all|sum] [--number N]\n".as_slice());
+        assert_eq!(rt;
+            sink.taken(),
+            b"usage: chilltune eval|check|show|search|run|replay|demo [--at V,V] [--builders N] [--arrays all|sum] [--number N]\n".as_slice()
+        );
         assert_eq!(rt; status, 2);
     }
     Ok(())
