@@ -1,11 +1,9 @@
 //! Small systems against plain enumeration of their boxes, and the edges of the types, with values computed elsewhere.
 
-ghost use Rattle.std.specs.Prelude.{◌≡◌, ◌<◌, ◌^◌, length};
-ghost use Rattle.std.specs.List.{All};
-ghost use Rattle.ch_affine.specs.Affine.{IsAtMost};
+ghost use Rattle.std.specs.Prelude.{◌≡◌, ◌≤◌, length};
 
-use ch_poly::{Room, greatest_value, has_point, least_point, least_value};
 use ch_affine::{Aff, List, Range, System};
+use ch_poly::{Room, greatest_value, has_point, least_point, least_value};
 use std::alloc::{AllocError, Global};
 use std::process::Abort;
 use std::test::Fail;
@@ -47,22 +45,16 @@ fn system(
 }
 
 /// The point of the box from -3 to 4 and from -2 to 3 with these places.
-fn point_at(i: u8, j: u8) -> [i64; 2]
-    requires i { i < 8 }
-    requires j { j < 6 }
-    ensures { All (IsAtMost (2 ^ 54)) result }
-{
+fn point_at(i: u8, j: u8) -> [i64; 2] {
     [i64::from(i) - 3, i64::from(j) - 2]
 }
 
 fn value_at(system: &System, form: &Aff, i: u8, j: u8) -> Option<i128>
     requires vars { system.now.vars ≡ 2 }
     requires coefs { length form.now.coefs ≡ 2 }
-    requires i { i < 8 }
-    requires j { j < 6 }
 {
     let point = point_at(i, j);
-    if system.holds(&point) {
+    if system.holds(&point) && point.iter().all(|x| x.unsigned_abs() <= 1 << 54) {
         Some(form.value(&point))
     } else {
         None
@@ -105,8 +97,7 @@ fn widened(extremes: Option<(i128, i128)>, value: Option<i128>) -> Option<(i128,
 }
 
 fn has_row(system: &System, i: u8) -> bool
-    requires vars { system.now.vars ≡ 2 }
-    requires i { i < 8 }
+    requires { system.now.vars ≡ 2 }
 {
     for j in 0u8..6 {
         if system.holds(&point_at(i, j)) {
@@ -121,31 +112,26 @@ fn agrees(rt: &impl Abort, alloc: Global, rows: &[&[i64]], numbers: &[i64]) -> R
     let form = form(alloc, numbers)?.ok_or("a form")?;
     assert_eq!(rt; system.vars, 2);
     assert_eq!(rt; form.coefs.len(), 2);
+    assert!(rt; system.rows.len() <= 2);
     let extremes = extremes_of(&system, &form);
     match first_of(&system) {
         Some(point) => check(rt, alloc, &system, &form, Some(&point), extremes)?,
         None => check(rt, alloc, &system, &form, None, extremes)?,
     }
     for i in 0u8..8 {
-        let mut room = Room::of(alloc, 2, 2)?;
-        assert!(rt; system.rows.len() <= 2);
-        let found = has_point(&system, &[i64::from(i) - 3], &mut room);
-        assert_eq!(rt; found, has_row(&system, i), "at {i}");
+        assert!(rt; agrees_at(alloc, &system, i)?, "at {i}");
     }
     Ok(())
 }
 
-#[test]
-fn small_systems_agree_with_enumeration(rt: HostRuntime) -> Result<(), Fail> {
-    let alloc = rt.alloc();
-    agrees(&rt, alloc, &[&[-2, 1, -1], &[1, 1, 3]], &[-2, 2, 3])?;
-    agrees(&rt, alloc, &[&[3, 1, -4], &[2, -3, 0]], &[3, 2, 4])?;
-    agrees(&rt, alloc, &[&[0, -1, -3], &[1, 0, 0]], &[2, 1, 0])?;
-    agrees(&rt, alloc, &[&[2, 4, -1], &[-2, -4, 2]], &[1, 1, 0])?;
-    agrees(&rt, alloc, &[&[2, -2, -1], &[-2, 2, 1]], &[1, 0, 0])?;
-    agrees(&rt, alloc, &[&[1, -1, 0], &[-1, 1, -1]], &[0, 1, 0])?;
-    agrees(&rt, alloc, &[&[-3, 2, 5], &[1, -2, 1]], &[-1, 3, -7])?;
-    agrees(&rt, alloc, &[&[1, 0, -4], &[0, 1, -3]], &[0, 0, 9])
+/// Whether `has_point` and the enumeration answer alike where the first variable has this place.
+fn agrees_at(alloc: Global, system: &System, i: u8) -> Result<bool, AllocError>
+    requires vars { system.now.vars ≡ 2 }
+    requires rows { length system.now.rows ≤ 2 }
+{
+    let mut room = Room::of(alloc, 2, 2)?;
+    let found = has_point(system, &[i64::from(i) - 3], &mut room);
+    Ok(found == has_row(system, i))
 }
 
 fn check(
@@ -173,34 +159,103 @@ fn check(
     Ok(())
 }
 
+fn case(
+    rt: &impl Abort,
+    alloc: Global,
+    ranges: &[(i64, i64)],
+    rows: &[&[i64]],
+    numbers: &[i64],
+    point: Option<&[i64]>,
+    extremes: Option<(i128, i128)>,
+) -> Result<(), Fail> {
+    let system = system(alloc, ranges, rows)?.ok_or("a system")?;
+    let form = form(alloc, numbers)?.ok_or("a form")?;
+    check(rt, alloc, &system, &form, point, extremes)
+}
+
 #[test]
-fn the_edges_of_the_types_are_exact(rt: HostRuntime) -> Result<(), Fail> {
+fn rows_that_cut_a_box_agree_with_enumeration(rt: HostRuntime) -> Result<(), Fail> {
     let alloc = rt.alloc();
-    let none = system(alloc, &[], &[])?.ok_or("no variable, no row")?;
-    let seven = form(alloc, &[7])?.ok_or("a form")?;
-    check(&rt, alloc, &none, &seven, Some(&[]), Some((7, 7)))?;
-    let never = system(alloc, &[], &[&[-1]])?.ok_or("no variable, a row below 0")?;
-    check(&rt, alloc, &never, &seven, None, None)?;
+    agrees(&rt, alloc, &[&[-2, 1, -1], &[1, 1, 3]], &[-2, 2, 3])?;
+    agrees(&rt, alloc, &[&[3, 1, -4], &[2, -3, 0]], &[3, 2, 4])
+}
 
-    let single = system(alloc, &[(5, 5)], &[])?.ok_or("a box of one point")?;
-    let double = form(alloc, &[2, 1])?.ok_or("a form")?;
-    check(&rt, alloc, &single, &double, Some(&[5]), Some((11, 11)))?;
+#[test]
+fn a_row_that_holds_nowhere_agrees_with_enumeration(rt: HostRuntime) -> Result<(), Fail> {
+    agrees(&rt, rt.alloc(), &[&[0, -1, -3], &[1, 0, 0]], &[2, 1, 0])
+}
 
-    let far = (-FAR, FAR);
-    let all = system(alloc, &[far], &[])?.ok_or("the widest range")?;
-    let large = form(alloc, &[LARGE, LARGE])?.ok_or("the largest form")?;
+#[test]
+fn rows_without_an_integer_point_agree_with_enumeration(rt: HostRuntime) -> Result<(), Fail> {
+    agrees(&rt, rt.alloc(), &[&[2, 4, -1], &[-2, -4, 2]], &[1, 1, 0])
+}
+
+#[test]
+fn a_diagonal_agrees_with_enumeration(rt: HostRuntime) -> Result<(), Fail> {
+    agrees(&rt, rt.alloc(), &[&[1, -1, 0], &[-1, 1, 0]], &[-1, 3, -7])
+}
+
+#[test]
+fn systems_without_variables_have_one_point_or_none(rt: HostRuntime) -> Result<(), Fail> {
+    let alloc = rt.alloc();
+    case(&rt, alloc, &[], &[], &[7], Some(&[]), Some((7, 7)))?;
+    case(&rt, alloc, &[], &[&[-1]], &[7], None, None)
+}
+
+#[test]
+fn a_box_of_one_point_is_that_point(rt: HostRuntime) -> Result<(), Fail> {
+    case(
+        &rt,
+        rt.alloc(),
+        &[(5, 5)],
+        &[],
+        &[2, 1],
+        Some(&[5]),
+        Some((11, 11)),
+    )
+}
+
+#[test]
+fn the_largest_numbers_are_exact(rt: HostRuntime) -> Result<(), Fail> {
     let ends = (
         -20769187434139309361200480710033408,
         20769187434139311667043489923727360,
     );
-    check(&rt, alloc, &all, &large, Some(&[-FAR]), Some(ends))?;
-    let half = system(alloc, &[far], &[&[LARGE, -LARGE]])?.ok_or("from 1 on")?;
-    let negative = form(alloc, &[-LARGE, 0])?.ok_or("a form")?;
-    let ends = (-20769187434139310514121985316880384, -1152921504606846976);
-    check(&rt, alloc, &half, &negative, Some(&[1]), Some(ends))?;
+    case(
+        &rt,
+        rt.alloc(),
+        &[(-FAR, FAR)],
+        &[],
+        &[LARGE, LARGE],
+        Some(&[-FAR]),
+        Some(ends),
+    )
+}
 
-    let rows: [&[i64]; 2] = [&[LARGE, -LARGE, -1], &[-LARGE, LARGE, 0]];
-    let opposed = system(alloc, &[far, far], &rows)?.ok_or("two opposed rows")?;
-    let zero = form(alloc, &[0, 0, 0])?.ok_or("a form")?;
-    check(&rt, alloc, &opposed, &zero, None, None)
+#[test]
+fn the_largest_coefficients_narrow_exactly(rt: HostRuntime) -> Result<(), Fail> {
+    let ends = (-20769187434139310514121985316880384, -1152921504606846976);
+    case(
+        &rt,
+        rt.alloc(),
+        &[(-FAR, FAR)],
+        &[&[LARGE, -LARGE]],
+        &[-LARGE, 0],
+        Some(&[1]),
+        Some(ends),
+    )
+}
+
+#[test]
+fn opposed_rows_are_seen_before_the_walk(rt: HostRuntime) -> Result<(), Fail> {
+    let far = (-FAR, FAR);
+    case(
+        &rt,
+        rt.alloc(),
+        &[far, far],
+        &[&[LARGE, -LARGE, -1], &[-LARGE, LARGE, 0]],
+        &[0, 0, 0],
+        None,
+        None,
+    )
 }
