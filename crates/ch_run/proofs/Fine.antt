@@ -1,5 +1,5 @@
 -- A program that is fine is accepted as it is, and no other is.
-use Rattle.std.proofs.Common.{◌≡◌, ℕ, true, false, List, Some, None, ◌&&◌}
+use Rattle.std.proofs.Common.{◌≡◌, ℕ, true, false, List, Some, None}
 use Rattle.ch_nest.specs.declared.nest.Fill.{Fill}
 use Rattle.ch_nest.specs.LoopNest.{LoopNest}
 use Rattle.ch_nest.specs.Shape.{is_nest}

@@ -1,5 +1,5 @@
 -- An item, by whether a loop may still stand in it.
-use Rattle.std.proofs.Common.{◌≡◌, ◌≢◌, ℕ, zero, suc, ◌+◌, ◌-◌, Bool, true, false, List, None, drop, refl, arith}
+use Rattle.std.proofs.Common.{◌≡◌, ◌≢◌, ℕ, zero, suc, ◌-◌, List, None, drop, refl, arith}
 use Rattle.ch_lex.specs.declared.keyword.Keyword.TheVariants as words
 use Rattle.ch_lex.specs.declared.token.Token.{Token}
 use Rattle.ch_run.specs.Items.{Items, assign_at, item_at, loop_at}

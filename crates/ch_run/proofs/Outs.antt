@@ -1,11 +1,11 @@
 -- What is answered to what was read.
-use Rattle.std.proofs.Common.{◌≡◌, ℕ, ◌+◌, ◌<◌, ◌≤◌, List, length, take, Some, None, IfSome, Option, refl, sym, ap, ◌∙◌, subst, arith, inl, inr, true, false}
-use Rattle.std.proofs.lemmas.Bool.{cases_lt, lt-ltb, le-ltb}
+use Rattle.std.proofs.Common.{◌≡◌, ℕ, List, length, take, Some, None, IfSome, Option, ap, ◌∙◌, subst, arith, inl, inr}
+use Rattle.std.proofs.lemmas.Bool.{cases_lt, lt-ltb}
 use Rattle.std.proofs.lemmas.List.{length-take-le, take_all}
 use Rattle.std.specs.Io.KnownBytes.{Appends}
 use Rattle.ch_io.specs.Streams.{AppendsPart}
 use Rattle.ch_run.specs.declared.eval.Answer.{Answer}
-use Rattle.ch_run.specs.Out.{most_bytes, most_read, out, too_long, AnswersAs, Writes}
+use Rattle.ch_run.specs.Out.{most_bytes, most_read, out, AnswersAs, Writes}
 
 -- one byte more than the limit decides
 out-take : (all : List ℕ) → out (take most_read all) ≡ out all

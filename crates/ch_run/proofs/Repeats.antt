@@ -1,10 +1,10 @@
 -- One reading after another.
-use Rattle.std.proofs.Common.{◌≡◌, ℕ, zero, suc, ◌+◌, ◌-◌, ◌<◌, ◌≤◌, Bool, true, false, List, Option, Some, None, refl, sym, arith}
+use Rattle.std.proofs.Common.{◌≡◌, ℕ, suc, ◌+◌, ◌-◌, ◌<◌, ◌≤◌, Bool, true, false, List, Some, sym, arith}
 use Rattle.ch_lex.specs.declared.token.Token.{Token}
 use Rattle.ch_run.specs.declared.unread.Unread.{Unread}
 use Rattle.ch_run.specs.declared.unread.Unread.TheVariants.{Memory, Refused}
 use Rattle.ch_run.specs.Gives.{Fails}
-use Rattle.ch_run.specs.Read.{◌>>=◌, Read, choose, repeated}
+use Rattle.ch_run.specs.Read.{Read, repeated}
 
 module _ {S : Type 0} (goes : List Token → Bool) (one : S → List Token → Read S) (m k : ℕ) (s : S) (ts : List Token) (total : Read S) where
   pub repeat_more : (x : S) (rest : List Token) → repeated goes one (m - k) s ts ≡ total → k < m → goes ts ≡ true → one s ts ≡ Some (x, rest)

@@ -1,5 +1,5 @@
 -- Loops and assignments, and a whole program.
-use Rattle.std.specs.Prelude.{ℕ, zero, suc, ◌+◌, ℤ, pos, ◌-ℤ◌, Bool, true, false, not, nat_lt, List, [], ◌∷◌, ◌++◌, length, drop, Option, Some, None}
+use Rattle.std.specs.Prelude.{ℕ, zero, suc, ◌+◌, pos, ◌-ℤ◌, Bool, true, false, not, nat_lt, List, [], ◌∷◌, ◌++◌, drop, Option, Some, None}
 use Rattle.std.specs.Str.{bytes_eq}
 use Rattle.ch_affine.specs.Form.{Form}
 use Rattle.ch_lex.specs.declared.keyword.Keyword.TheVariants as words

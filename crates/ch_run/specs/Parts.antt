@@ -1,8 +1,7 @@
 -- Affine forms, accesses and right sides. A form is one number or one name, and a right side has neither parentheses nor
 -- a minus sign in front.
-use Rattle.std.specs.Prelude.{ℕ, zero, suc, ◌+◌, ◌-◌, ℤ, pos, Bool, true, false, nat_le, nat_lt, List, [], ◌∷◌, ◌++◌, length, drop, replicate, slice_set, Option, Some, None}
+use Rattle.std.specs.Prelude.{ℕ, pos, Bool, true, false, nat_le, List, [], ◌∷◌, ◌++◌, drop, replicate, slice_set, Option, Some, None}
 use Rattle.ch_affine.specs.Form.{Form}
-use Rattle.ch_lex.specs.declared.token.Sign.{Sign}
 use Rattle.ch_lex.specs.declared.token.Sign.TheVariants as signs
 use Rattle.ch_lex.specs.declared.token.Token.{Token}
 use Rattle.ch_nest.specs.declared.nest.Access.{Access}
@@ -14,7 +13,7 @@ use Rattle.ch_run.specs.declared.look.Look.{Look}
 use Rattle.ch_run.specs.declared.look.Look.TheVariants as looks
 use Rattle.ch_run.specs.declared.names.Named.{Named}
 use Rattle.ch_run.specs.declared.names.Named.TheVariants.{Let, Array, Iterator}
-use Rattle.ch_run.specs.Read.{◌>>=◌, Read, where_true, text_at, seen, is_sign, next_is, sign_at, repeated, Names, find_name}
+use Rattle.ch_run.specs.Read.{◌>>=◌, Read, where_true, text_at, seen, next_is, sign_at, repeated, Names, find_name}
 
 -- forms of `levels` iterators
 
