@@ -1,6 +1,9 @@
 pub mod Capped
 pub mod Corners
 pub mod Fits
+pub mod FlatItems
+pub mod FlatRuns
+pub mod Flattens
 pub mod Places
 pub mod Rests
 pub mod Runs

@@ -94,7 +94,7 @@ some_extents (x ∷ ds) zero d h a =
     rw e at s
 some_extents (x ∷ ds) (suc k) d h a = some_extents ds k d h ((and_parts _ _ a).1)
 
-dimensions_exist : (ds : List ArrayDecl) (k n : ℕ) → IsTrue (has_dimensions ds k n) → k < length ds
+pub dimensions_exist : (ds : List ArrayDecl) (k n : ℕ) → IsTrue (has_dimensions ds k n) → k < length ds
 dimensions_exist [] k n h = absurd cc
 dimensions_exist (d ∷ ds) zero n h = omega arith
 dimensions_exist (d ∷ ds) (suc k) n h = omega (arith, dimensions_exist ds k n h)

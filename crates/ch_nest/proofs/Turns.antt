@@ -32,7 +32,7 @@ nth_small low high k l h b = grind (arith, ints)
 pub nth_in_order : (low high : ℤ) (k : ℕ) → k < count low high → low ≤ℤ high
 nth_in_order low high k b = grind (arith, ints)
 
-nth_below : (low high : ℤ) (k : ℕ) → k < count low high → (low +ℤ pos k) ≤ℤ high
+pub nth_below : (low high : ℤ) (k : ℕ) → k < count low high → (low +ℤ pos k) ≤ℤ high
 nth_below low high k b = grind (arith, ints)
 
 pub points_small : (arrays : List ArrayDecl) (items : List Item) (point : List ℤ) → AreAt arrays items point → All (IsAtMost (2 ^ 54)) point
@@ -41,7 +41,7 @@ points_small arrays items point a = lies_small a.boxes point a.small a.inside
 pub point_small : (arrays : List ArrayDecl) (item : Item) (point : List ℤ) → IsAt arrays item point → All (IsAtMost (2 ^ 54)) point
 point_small arrays item point a = lies_small a.boxes point a.small a.inside
 
-fit_at : (arrays : List ArrayDecl) (items : List Item) (boxes : List Range) (k : ℕ) (d : Item) → k < length items → IsTrue (items_fit arrays items boxes)
+pub fit_at : (arrays : List ArrayDecl) (items : List Item) (boxes : List Range) (k : ℕ) (d : Item) → k < length items → IsTrue (items_fit arrays items boxes)
     → IsTrue (item_fits arrays (get_or items k d) boxes)
 fit_at arrays [] boxes k d l h = absurd (omega arith)
 fit_at arrays (i ∷ is) boxes zero d l h = (and_parts _ _ h).0
@@ -50,7 +50,7 @@ fit_at arrays (i ∷ is) boxes (suc k) d l h = fit_at arrays is boxes k d (omega
 pub item_at : (arrays : List ArrayDecl) (items : List Item) (point : List ℤ) (k : ℕ) (d : Item) → k < length items → AreAt arrays items point → IsAt arrays (get_or items k d) point
 item_at arrays items point k d l a = record { boxes = a.boxes; small = a.small; inside = a.inside; fit = fit_at arrays items a.boxes k d l a.fit }
 
-assign_fits_is : (arrays : List ArrayDecl) (label : ℕ) (body : Body) (boxes : List Range) → item_fits arrays (Assign label body) boxes ≡ body_fits arrays (length boxes) body
+pub assign_fits_is : (arrays : List ArrayDecl) (label : ℕ) (body : Body) (boxes : List Range) → item_fits arrays (Assign label body) boxes ≡ body_fits arrays (length boxes) body
 assign_fits_is arrays label body boxes = ap (λ f. f boxes) (ap (item_fits arrays) (sym (rolls-Assign label body)) ∙ fold-roll-Item Test (item_fits_step arrays) _)
 
 pub body_at : (arrays : List ArrayDecl) (item : Item) (point : List ℤ) (label : ℕ) (body : Body) → item ≡ Assign label body → IsAt arrays item point

@@ -6,3 +6,4 @@ pub mod Run
 pub mod Shape
 pub mod Sound
 pub mod At
+pub mod Fast

@@ -74,7 +74,7 @@ pub(crate) fn extended(point: &[i64], value: i64) -> [i64; 6]
     inner
 }
 
-fn negated(x: i64) -> i64
+pub(crate) fn negated(x: i64) -> i64
     ensures { result ≡ int_wrap w64 (neg_ℤ x) }
 {
     x.wrapping_neg()
@@ -86,7 +86,7 @@ pub(crate) fn plus(x: i64, y: i64) -> i64
     x.wrapping_add(y)
 }
 
-fn minus(x: i64, y: i64) -> i64
+pub(crate) fn minus(x: i64, y: i64) -> i64
     ensures { result ≡ int_wrap w64 (x -ℤ y) }
 {
     x.wrapping_sub(y)

@@ -1,6 +1,8 @@
 //! The edges of the limits, and small nests whose cells were worked out by hand.
 
-use crate::{Access, ArrayDecl, Body, Expr, Fill, Item, Nest, Sub, filled, is_sound, run_nest};
+use crate::{
+    Access, ArrayDecl, Body, Expr, Fill, Item, Nest, Sub, filled, is_sound, perform, run_nest,
+};
 use ch_affine::{Aff, Boxed, List, Text};
 use std::alloc::{AllocError, Global};
 use std::test::Fail;
@@ -353,7 +355,7 @@ fn nests_keep_their_limits(rt: HostRuntime) -> Result<(), Fail> {
     Ok(())
 }
 
-/// The cells after a run that started from the fills, or `None` where the nest can't be run.
+/// The cells after a run that started from the fills, or `None` where the nest can't be run or its two runs differ.
 #[tactic(auto, using(crate::proofs::Sounds::arrays_of, crate::proofs::Sounds::inside_of))]
 fn ran(alloc: Global, nest: &Nest, fills: &[Fill]) -> Result<Option<List<i64>>, AllocError> {
     nest.known();
@@ -362,6 +364,11 @@ fn ran(alloc: Global, nest: &Nest, fills: &[Fill]) -> Result<Option<List<i64>>, 
     }
     let mut cells = filled(alloc, nest.arrays.as_slice(), fills)?;
     run_nest(nest, &mut cells);
+    let mut performed = filled(alloc, nest.arrays.as_slice(), fills)?;
+    perform(alloc, nest, &mut performed)?;
+    if performed.as_slice() != cells.as_slice() {
+        return Ok(None);
+    }
     Ok(Some(cells))
 }
 

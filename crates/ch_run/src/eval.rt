@@ -7,7 +7,7 @@ use crate::program::{Program, accepted};
 use crate::text::{put, put_arrays};
 use crate::unread::Unread;
 use ch_affine::List;
-use ch_nest::{filled, run_nest};
+use ch_nest::{filled, perform};
 use std::alloc::{AllocError, Global};
 
 /// The most bytes of an input.
@@ -31,7 +31,7 @@ fn cells_after(alloc: Global, program: &Program) -> Result<List<i64>, AllocError
         program.nest.arrays.as_slice(),
         program.fills.as_slice(),
     )?;
-    run_nest(&program.nest, &mut cells);
+    perform(alloc, &program.nest, &mut cells)?;
     Ok(cells)
 }
 
