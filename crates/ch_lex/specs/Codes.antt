@@ -1,7 +1,7 @@
 -- The codes of refusals.
 use Rattle.std.specs.Prelude.{ℕ, List, codes, pos}
 use Rattle.ch_lex.specs.declared.error.Code2.{Code2}
-use Rattle.ch_lex.specs.declared.error.Code2.TheVariants.{L1, L2, L3, P1, P2, P3, P4, P5, P6, A1, D8, R1, R2, R3, R4, D1, D2, D3, D4, D5, D6, D7, D9, S1, S2, D10, D11, D12}
+use Rattle.ch_lex.specs.declared.error.Code2.TheVariants.{L1, L2, L3, P1, P2, P3, P4, P5, P6, A1, D8, R1, R2, R3, R4, D1, D2, D3, D4, D5, D6, D7, D9, S1, S2, D10, D11, D12, Z2}
 use Rattle.ch_lex.specs.declared.error.LexError.{LexError}
 use Rattle.ch_lex.specs.declared.error.LexError.TheVariants as lexing
 use Rattle.ch_lex.specs.declared.error.ParseError.{ParseError}
@@ -36,6 +36,7 @@ code_text S2 = codes "S2"
 code_text D10 = codes "D10"
 code_text D11 = codes "D11"
 code_text D12 = codes "D12"
+code_text Z2 = codes "Z2"
 
 -- a text without tokens as a parser refuses it
 abbrev pub refusal_of : LexError → ParseError

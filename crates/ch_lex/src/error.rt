@@ -27,7 +27,7 @@ impl From<AllocError> for LexError {
 }
 
 /// The codes of a deck's refusals: of its bytes (L), its programs (P, A1 and D8), its recipes (R), its declarations (D),
-/// the meaning of its programs (S), and of what it asks for (D10 to D12).
+/// the meaning of its programs (S), and of what it asks for (D10 to D12). Z2 stands at a section that isn't read yet.
 #[derive(Clone, Copy, Debug, PartialEq, Eq)]
 pub enum Code2 {
     L1,
@@ -58,6 +58,7 @@ pub enum Code2 {
     D10,
     D11,
     D12,
+    Z2,
 }
 
 impl Code2 {
@@ -97,6 +98,7 @@ impl Code2 {
             Code2::D10 => b"D10",
             Code2::D11 => b"D11",
             Code2::D12 => b"D12",
+            Code2::Z2 => b"Z2",
         }
     }
 }

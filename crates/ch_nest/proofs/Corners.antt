@@ -131,10 +131,10 @@ greatest_ge (c ∷ cs) (r ∷ rs) (x ∷ xs) e h =
 coefs_of : (depth : ℕ) (f : Form) → IsTrue (coefs_fit depth f) → length f.coefs ≡ depth
 coefs_of depth f h = eqb-true _ _ ((and_parts _ _ h).0)
 
-in_above : (rs : List Range) (f : Form) (xs : List ℤ) → IsTrue (coefs_fit (length rs) f) → IsTrue (lies_in rs xs) → least_in rs f ≤ℤ value f xs
+pub in_above : (rs : List Range) (f : Form) (xs : List ℤ) → IsTrue (coefs_fit (length rs) f) → IsTrue (lies_in rs xs) → least_in rs f ≤ℤ value f xs
 in_above rs f xs e h = omega (arith, ints, least_le f.coefs rs xs (coefs_of (length rs) f e) h)
 
-in_below : (rs : List Range) (f : Form) (xs : List ℤ) → IsTrue (coefs_fit (length rs) f) → IsTrue (lies_in rs xs) → value f xs ≤ℤ greatest_in rs f
+pub in_below : (rs : List Range) (f : Form) (xs : List ℤ) → IsTrue (coefs_fit (length rs) f) → IsTrue (lies_in rs xs) → value f xs ≤ℤ greatest_in rs f
 in_below rs f xs e h = omega (arith, ints, greatest_ge f.coefs rs xs (coefs_of (length rs) f e) h)
 
 -- the ends of a loop at a point lie in its box

@@ -1,3 +1,4 @@
+pub mod Boxed
 pub mod Capped
 pub mod Corners
 pub mod Fits

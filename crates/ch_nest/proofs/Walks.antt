@@ -118,3 +118,8 @@ pub loop_done : (arrays : List ArrayDecl) (item : Item) (lows highs : List Form)
     → Some left ≡ left_of budget (item_work item point) (item_inside arrays item point)
 loop_done arrays item lows highs items point budget left k n low high is l h c e after =
     loop_walked arrays item lows highs items point budget (Some left) is (sym (rw (e, c, l, h) at after))
+
+pub assign_inside : (arrays : List ArrayDecl) (item : Item) (label : ℕ) (body : Body) (point : List ℤ) → item ≡ Assign label body
+    → IsTrue (item_inside arrays item point) → IsTrue (access_inside arrays point body.write && expr_inside arrays point body.right)
+assign_inside arrays item label body point is h =
+    let a : IsTrue (access_inside arrays point body.write && expr_inside arrays point body.right) = rw (is, inside_assign_is arrays label body point) at h in a

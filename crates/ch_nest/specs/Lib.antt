@@ -7,3 +7,4 @@ pub mod Shape
 pub mod Sound
 pub mod At
 pub mod Fast
+pub mod Lies

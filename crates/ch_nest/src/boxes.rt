@@ -1,3 +1,5 @@
+//! The boxes of loops, and the least and greatest values of forms over them.
+
 ghost use Rattle.std.specs.Prelude.{◌≡◌, ◌≤◌, ◌<◌, ◌^◌, ◌*◌, ◌+◌, ◌+ℤ◌, ◌*ℤ◌, ◌∷◌, [], ◌++◌, length, unsigned_abs, take, map, IsTrue, MatchOption, true, false};
 ghost use Rattle.std.specs.List.{All, list_all};
 ghost use Rattle.ch_affine.specs.Affine.{IsAtMost};
@@ -78,7 +80,7 @@ fn greatest_sum(coefs: &[i64], boxes: &[Range]) -> i128
 }
 
 /// The least value of a form over boxes.
-fn least_in(boxes: &[Range], form: &Aff) -> i128
+pub fn least_in(boxes: &[Range], form: &Aff) -> i128
     requires few { length boxes.now ≤ deepest }
     requires form { IsTrue (coefs_fit (length boxes.now) form.now) }
     requires boxes { All IsSmall boxes.now }
@@ -92,7 +94,7 @@ fn least_in(boxes: &[Range], form: &Aff) -> i128
 }
 
 /// The greatest value of a form over boxes.
-fn greatest_in(boxes: &[Range], form: &Aff) -> i128
+pub fn greatest_in(boxes: &[Range], form: &Aff) -> i128
     requires few { length boxes.now ≤ deepest }
     requires form { IsTrue (coefs_fit (length boxes.now) form.now) }
     requires boxes { All IsSmall boxes.now }
@@ -107,7 +109,7 @@ fn greatest_in(boxes: &[Range], form: &Aff) -> i128
 
 /// Where the box of a loop begins.
 #[tactic(auto, using(crate::proofs::Rests::all_rest))]
-fn low_end(boxes: &[Range], lows: &[Aff]) -> i128
+pub fn low_end(boxes: &[Range], lows: &[Aff]) -> i128
     requires few { length boxes.now ≤ deepest }
     requires lows { IsTrue (list_all (coefs_fit (length boxes.now)) lows.now) }
     requires boxes { All IsSmall boxes.now }
@@ -122,7 +124,7 @@ fn low_end(boxes: &[Range], lows: &[Aff]) -> i128
 
 /// The least of the greatest values of the highs.
 #[tactic(auto, using(crate::proofs::Rests::all_rest))]
-fn least_of_greatest(boxes: &[Range], highs: &[Aff]) -> i128
+pub fn least_of_greatest(boxes: &[Range], highs: &[Aff]) -> i128
     requires few { length boxes.now ≤ deepest }
     requires highs { IsTrue (list_all (coefs_fit (length boxes.now)) highs.now) }
     requires boxes { All IsSmall boxes.now }
@@ -154,7 +156,7 @@ fn small_range(low: i128, high: i128) -> Option<Range>
 }
 
 /// The box of a loop, where its ends keep the limit of affine text.
-pub(crate) fn small_box(boxes: &[Range], lows: &[Aff], highs: &[Aff]) -> Option<Range>
+pub fn small_box(boxes: &[Range], lows: &[Aff], highs: &[Aff]) -> Option<Range>
     requires few { length boxes.now ≤ deepest }
     requires lows { IsTrue (list_all (coefs_fit (length boxes.now)) lows.now) }
     requires highs { IsTrue (list_all (coefs_fit (length boxes.now)) highs.now) }
@@ -167,7 +169,7 @@ pub(crate) fn small_box(boxes: &[Range], lows: &[Aff], highs: &[Aff]) -> Option<
 }
 
 /// The boxes, and one more inside them.
-pub(crate) fn extended_boxes(boxes: &[Range], inner: Range) -> [Range; 6]
+pub fn extended_boxes(boxes: &[Range], inner: Range) -> [Range; 6]
     requires { length boxes.now < deepest }
     ensures { take (length boxes.now + 1) result ≡ boxes.now ++ inner ∷ [] }
 {

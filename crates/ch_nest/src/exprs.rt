@@ -8,7 +8,7 @@ use crate::nest::{Access, ArrayDecl, Body, Expr, Sub};
 
 /// Where in a text a right side stands: where a sum may stand, where a product may, or where neither may.
 #[derive(Clone, Copy, Debug)]
-pub(crate) enum Standing {
+pub enum Standing {
     Term,
     Factor,
     Operand,

@@ -1,12 +1,13 @@
 //! Loop nests over arrays, and what they do when they run in program order.
 #![tactic(auto)]
 
-mod boxes;
+pub mod boxes;
 mod cells;
 mod exprs;
 mod fills;
 mod flat;
 mod forms;
+mod lies;
 mod limits;
 mod nest;
 mod place;
@@ -15,12 +16,13 @@ mod run;
 mod shape;
 mod walk;
 
+pub use exprs::Standing;
 pub use fills::filled;
 pub use nest::{Access, ArrayDecl, Body, Expr, Fill, Item, Nest, Sub};
-pub use place::cells_in;
+pub use place::{cells_in, sub_value, total};
 pub use plan::perform;
-pub use run::run_nest;
-pub use walk::is_sound;
+pub use run::{extended, greatest_low, least_high, nth_value, run_nest, turns_of};
+pub use walk::{access_inside, body_inside, is_sound};
 
 #[cfg(test)]
 mod tests;

@@ -22,7 +22,7 @@ pub fn cells_in(extents: &[u32]) -> usize
 
 /// How many cells the arrays have together.
 #[tactic(auto, using(crate::proofs::Places::total_next, crate::proofs::Places::extents_some))]
-pub(crate) fn total(arrays: &[ArrayDecl]) -> usize
+pub fn total(arrays: &[ArrayDecl]) -> usize
     requires few { total arrays.now ≤ 2 ^ 40 }
     requires arrays { IsTrue (list_all is_array arrays.now) }
     ensures { result ≡ total arrays.now }
@@ -36,7 +36,7 @@ pub(crate) fn total(arrays: &[ArrayDecl]) -> usize
 
 /// The value of a subscript at a point.
 #[tactic(auto, using(crate::proofs::Places::plain_sub, crate::proofs::Places::sub_coefs))]
-pub(crate) fn sub_value(sub: &Sub, point: &[i64]) -> i128
+pub fn sub_value(sub: &Sub, point: &[i64]) -> i128
     requires fits { IsTrue (sub_fits (length point.now) sub.now) }
     requires small { All (IsAtMost (2 ^ 54)) point.now }
     ensures { result ≡ sub_value point.now sub.now }

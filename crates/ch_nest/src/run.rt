@@ -15,7 +15,7 @@ use ch_affine::{Aff, List};
 
 /// The greatest of the lower bounds at a point.
 #[tactic(auto, using(crate::proofs::Rests::all_rest, crate::proofs::Turns::form_coefs))]
-pub(crate) fn greatest_low(lows: &[Aff], point: &[i64]) -> i128
+pub fn greatest_low(lows: &[Aff], point: &[i64]) -> i128
     requires fit { IsTrue (list_all (coefs_fit (length point.now)) lows.now) }
     requires small { All (IsAtMost (2 ^ 54)) point.now }
     ensures { result ≡ low_of lows.now point.now }
@@ -29,7 +29,7 @@ pub(crate) fn greatest_low(lows: &[Aff], point: &[i64]) -> i128
 
 /// The least of the upper bounds at a point.
 #[tactic(auto, using(crate::proofs::Rests::all_rest, crate::proofs::Turns::form_coefs))]
-pub(crate) fn least_high(highs: &[Aff], point: &[i64]) -> i128
+pub fn least_high(highs: &[Aff], point: &[i64]) -> i128
     requires fit { IsTrue (list_all (coefs_fit (length point.now)) highs.now) }
     requires small { All (IsAtMost (2 ^ 54)) point.now }
     ensures { result ≡ high_of highs.now point.now }
@@ -42,7 +42,7 @@ pub(crate) fn least_high(highs: &[Aff], point: &[i64]) -> i128
 }
 
 /// How many values a loop takes.
-pub(crate) fn turns_of(low: i128, high: i128) -> u64
+pub fn turns_of(low: i128, high: i128) -> u64
     requires small { low ≤ℤ high → IsAtMost (2 ^ 30) low × IsAtMost (2 ^ 30) high }
     ensures { result ≡ count low high }
 {
@@ -54,7 +54,7 @@ pub(crate) fn turns_of(low: i128, high: i128) -> u64
 }
 
 #[tactic(auto, using(crate::proofs::Turns::nth_small))]
-pub(crate) fn nth_value(low: i128, high: i128, k: u64) -> i64
+pub fn nth_value(low: i128, high: i128, k: u64) -> i64
     requires low_small { IsAtMost (2 ^ 30) low }
     requires high_small { IsAtMost (2 ^ 30) high }
     requires few { k < count low high }
@@ -64,7 +64,7 @@ pub(crate) fn nth_value(low: i128, high: i128, k: u64) -> i64
 }
 
 /// The point, with the value of one more loop.
-pub(crate) fn extended(point: &[i64], value: i64) -> [i64; 6]
+pub fn extended(point: &[i64], value: i64) -> [i64; 6]
     requires { length point.now < deepest }
     ensures { take (length point.now + 1) result ≡ point.now ++ value ∷ [] }
 {

@@ -5,14 +5,19 @@ use Rattle.ch_nest.specs.Sound.{items_inside, items_work}
 use Rattle.ch_nest.specs.declared.nest.Item.TheViews.{the_lemmas}
 use Rattle.ch_nest.proofs.Fits.{head_depth, head_lows, head_highs}
 use Rattle.ch_nest.proofs.Turns.{body_at, ends_small, item_at, loop_at, nth_in_order, point_small, turn_at}
-use Rattle.ch_nest.proofs.Walks.{items_end, items_go_on, loop_done, loop_ends, none_left, turn_left, turns_go_on}
+use Rattle.ch_nest.proofs.Runs.{inside_at, turn_inside}
+use Rattle.ch_nest.proofs.Walks.{assign_inside, items_end, items_go_on, loop_done, loop_ends, none_left, turn_left, turns_go_on}
 use Rattle.ch_nest.proofs.walk.+walk.Goals as goal
 
-pub walk_item-body_inside-requires-clause-fits : goal.walk_item-body_inside-requires-clause-fits
-walk_item-body_inside-requires-clause-fits t c = body_at c.args.arrays.now c.args.item.now c.args.point.now c.in-Assign.label c.in-Assign.body c.in-Assign.is c.requires.at
+pub walk_item-instance_inside-requires-clause-fits : goal.walk_item-instance_inside-requires-clause-fits
+walk_item-instance_inside-requires-clause-fits t c = body_at c.args.arrays.now c.args.item.now c.args.point.now c.in-Assign.label c.in-Assign.body c.in-Assign.is c.requires.at
 
-pub walk_item-body_inside-requires-clause-small : goal.walk_item-body_inside-requires-clause-small
-walk_item-body_inside-requires-clause-small t c = point_small c.args.arrays.now c.args.item.now c.args.point.now c.requires.at
+pub walk_item-instance_inside-requires-clause-small : goal.walk_item-instance_inside-requires-clause-small
+walk_item-instance_inside-requires-clause-small t c = point_small c.args.arrays.now c.args.item.now c.args.point.now c.requires.at
+
+pub walk_item-instance_inside-requires-clause-known : goal.walk_item-instance_inside-requires-clause-known
+walk_item-instance_inside-requires-clause-known t c = λ known.
+    assign_inside c.args.arrays.now c.args.item.now c.in-Assign.label c.in-Assign.body c.args.point.now c.in-Assign.is (c.requires.known known)
 
 pub walk_item-greatest_low-low-requires-clause-fit : goal.walk_item-greatest_low-low-requires-clause-fit
 walk_item-greatest_low-low-requires-clause-fit t c =
@@ -79,13 +84,21 @@ walk_item-walk_items-requires t c =
     let value = rw low at (simp to_z-of_z at c.nth_value.ensures) in
     let inner = rw value at (simp to_z-of_z at c.extended-inner.ensures) in (
       rw c.as_slice-in-loop-k.ensures (search (rules, the_lemmas)),
-      rw c.as_slice-in-loop-k.ensures (turn_at c.args.arrays.now c.in-Loop.lows c.in-Loop.highs c.in-Loop.items c.args.point.now _ c.loop-k.k a below inner),
+      (
+        rw c.as_slice-in-loop-k.ensures (turn_at c.args.arrays.now c.in-Loop.lows c.in-Loop.highs c.in-Loop.items c.args.point.now _ c.loop-k.k a below inner),
+        rw c.as_slice-in-loop-k.ensures (λ known. turn_inside c.args.arrays.now c.args.item.now c.in-Loop.lows c.in-Loop.highs c.in-Loop.items c.args.point.now _ c.loop-k.k
+            c.in-Loop.is below inner (c.requires.known known)),
+      ),
     )
 
 pub walk_items-walk_item-requires : goal.walk_items-walk_item-requires
 walk_items-walk_item-requires t c = (
   search (rules, the_lemmas),
-  rw c.item-item.is (item_at c.args.arrays.now c.args.items.now c.args.point.now c.loop-item.item-index c.item-item.result c.loop-item-test.true c.requires.at),
+  (
+    rw c.item-item.is (item_at c.args.arrays.now c.args.items.now c.args.point.now c.loop-item.item-index c.item-item.result c.loop-item-test.true c.requires.at),
+    rw c.item-item.is (λ known. inside_at c.args.arrays.now c.args.items.now c.args.point.now c.loop-item.item-index c.item-item.result c.loop-item-test.true
+        (c.requires.known known)),
+  ),
 )
 
 pub walk_items-returns-in-None : goal.walk_items-returns-in-None
