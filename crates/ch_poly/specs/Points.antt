@@ -1,6 +1,6 @@
 -- The integer points of a system, in lexicographic order.
 use Rattle.std.specs.Prelude.{ℕ, ℤ, pos, negsuc, zero, suc, ◌+ℤ◌, ◌-ℤ◌, true, false, Bool, ◌&&◌, List, [], ◌∷◌, map, Option, Some, None}
-use Rattle.std.specs.List.{flat_map, filter, fold}
+use Rattle.std.specs.List.{flat_map, filter, fold, list_any}
 use Rattle.std.specs.Int.{int_max, int_min}
 use Rattle.std.specs.Ordering.{int_eq}
 use Rattle.ch_affine.specs.Rows.{Rows, all_hold}
@@ -47,3 +47,7 @@ least_of (z ∷ zs) = Some (fold int_min z zs)
 abbrev pub greatest_of : List ℤ → Option ℤ
 greatest_of [] = None
 greatest_of (z ∷ zs) = Some (fold int_max z zs)
+
+-- some point of the system begins with these values
+abbrev pub begins_some : Rows → List ℤ → Bool
+begins_some s xs = list_any (begins xs) (points s)

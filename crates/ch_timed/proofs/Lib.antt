@@ -1,0 +1,5 @@
+pub mod Rolls
+pub mod Orders
+pub mod Blocks
+pub mod Program
+pub mod Closing

@@ -1,0 +1,12 @@
+pub mod Members
+pub mod Order
+pub mod Ordered
+pub mod Vectors
+pub mod Timed
+pub mod Conflict
+pub mod Start
+pub mod Groups
+pub mod Closed
+pub mod Do
+pub mod Flat
+pub mod Next

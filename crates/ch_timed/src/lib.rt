@@ -1,0 +1,9 @@
+//! Timed lists: the statement instances of a program, each with the vector that says when it is executed. What such a list
+//! does to a store, when two of its elements conflict, the list of a nest, and what the commands do to vectors.
+#![tactic(auto)]
+
+mod element;
+mod timed;
+
+pub use element::{Cell, Element, Identity, Label};
+pub use timed::Timed;
