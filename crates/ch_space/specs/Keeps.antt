@@ -1,0 +1,91 @@
+-- What the type of a space keeps.
+use Rattle.std.specs.Prelude.{◌≡◌, ◌≢◌, ℕ, ℤ, pos, ◌+◌, ◌*◌, ◌<◌, ◌≤◌, ◌^◌, Bool, true, ◌&&◌, nat_lt, IsTrue, List, [], ◌∷◌, ◌++◌, length, map}
+use Rattle.std.specs.List.{All, flat_map, sum}
+use Rattle.std.specs.Ordering.{int_cmp}
+use Rattle.std.specs.declared.cmp.Ordering.TheVariants.{Less}
+use Rattle.std.specs.Cmp.Lexicographic.{slice_cmp}
+use Rattle.ch_affine.specs.Affine.{IsAtMost}
+use Rattle.ch_nest.specs.declared.nest.Access.{Access}
+use Rattle.ch_nest.specs.declared.nest.Body.{Body}
+use Rattle.ch_nest.specs.declared.nest.Expr.{Expr}
+use Rattle.ch_nest.specs.declared.nest.Expr.TheOpen.{Expr-F}
+use Rattle.ch_nest.specs.declared.nest.Expr.TheFolds.{fold-Expr}
+use Rattle.ch_space.specs.declared.piece.Piece.{Piece}
+use Rattle.ch_space.specs.Pieces.{instances, listed}
+use Rattle.ch_timed.specs.Conflict.{reads}
+use Rattle.ch_timed.specs.declared.element.Label.{Label}
+use Rattle.ch_timed.specs.declared.element.Label.TheVariants.{Stmt, Move}
+use Rattle.ch_timed.specs.Members.{In}
+use Rattle.ch_timed.specs.Timed.{is_well_formed}
+
+abbrev pub most_instances : ℕ
+most_instances = 2097152
+
+abbrev pub most_arrays : ℕ
+most_arrays = 262144
+
+-- A piece has one place more than levels, its system the levels and the hidden values, and its origin gives iterators from the
+-- levels.
+pub record IsWhole (p : Piece) : Type 0 where
+  pub places : length p.places ≡ p.levels + 1
+  pub variables : p.system.vars ≡ p.levels + p.hidden
+  pub origin : All (λ f. length f.coefs ≡ p.levels) p.origin
+
+abbrev pub places_of : Piece → List ℤ
+places_of p = map pos p.places
+
+-- the places come before those of each of these pieces
+abbrev pub AllLater : List ℤ → List Piece → Type 0
+AllLater places [] = Unit {0}
+AllLater places (q ∷ qs) = (slice_cmp int_cmp places (places_of q) ≡ Less) × AllLater places qs
+
+-- The places ascend, and each piece has an instance: so piece k of the list is the k-th.
+abbrev pub AreApart : List Piece → Type 0
+AreApart [] = Unit {0}
+AreApart (p ∷ ps) = IsWhole p × (instances p ≢ []) × AllLater (places_of p) ps × AreApart ps
+
+-- the accesses of a body: the reads from left to right, then the write
+abbrev pub accesses : Body → List Access
+accesses b = reads b.right ++ b.write ∷ []
+
+abbrev pub iters_below_step : ℕ → Expr-F Bool → Bool
+iters_below_step n (Expr-F.Number m) = true
+iters_below_step n (Expr-F.Iter k) = nat_lt k n
+iters_below_step n (Expr-F.Read a) = true
+iters_below_step n (Expr-F.Neg x) = x
+iters_below_step n (Expr-F.Add x y) = x && y
+iters_below_step n (Expr-F.Sub x y) = x && y
+iters_below_step n (Expr-F.Mul x y) = x && y
+
+-- each iterator of a right side is one of the first n
+abbrev pub iters_below : ℕ → Expr → Bool
+iters_below n = fold-Expr Bool (iters_below_step n)
+
+-- An access names an array that is declared or a buffer, by 1 to 4 subscripts over so many iterators, which have no modulus where
+-- the array is declared.
+pub record IsAccess (arrays temps iters : ℕ) (a : Access) : Type 0 where
+  pub array : a.array < arrays + temps
+  pub some : 1 ≤ length a.subs
+  pub few : length a.subs ≤ 4
+  pub forms : All (λ s. length s.form.coefs ≡ iters) a.subs
+  pub plain : a.array < arrays → All (λ s. s.modulus ≡ 0) a.subs
+
+pub record IsBody (arrays temps iters : ℕ) (b : Body) : Type 0 where
+  pub iterators : IsTrue (iters_below iters b.right)
+  pub accesses : All (IsAccess arrays temps iters) (accesses b)
+
+abbrev pub IsMoveBelow : ℕ → Label → Type 0
+IsMoveBelow n (Stmt k) = Unit {0}
+IsMoveBelow n (Move k) = k < n
+
+pub record IsSpace (arrays : ℕ) (pieces : List Piece) (counts : List ℕ) (temps : List (List ℕ)) (commands : ℕ) : Type 0 where
+  pub apart : AreApart pieces
+  pub well_formed : IsTrue (is_well_formed (listed pieces))
+  pub counted : counts ≡ map (λ p. length (instances p)) pieces
+  pub few : sum counts ≤ most_instances
+  pub few_arrays : arrays ≤ most_arrays
+  pub bodies : All (λ p. IsBody arrays (length temps) (length p.origin) p.body) pieces
+  -- accesses of one array have equally many subscripts
+  pub agree : (a b : Access) → In a (flat_map (λ p. accesses p.body) pieces) → In b (flat_map (λ p. accesses p.body) pieces) → a.array ≡ b.array → length a.subs ≡ length b.subs
+  pub moves : All (λ p. IsMoveBelow (256 * commands) p.label) pieces
+  pub near : All (λ e. All (IsAtMost (2 ^ 54)) e.identity.iters) (listed pieces)
