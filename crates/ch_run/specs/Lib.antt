@@ -1,10 +1,4 @@
-pub mod Accepted
-pub mod Distinct
-pub mod Entries
-pub mod Gives
-pub mod Heads
-pub mod Items
-pub mod Out
-pub mod Parts
-pub mod Read
-pub mod Text
+pub mod Commands
+pub mod EvalText
+pub mod ShowText
+pub mod Answers

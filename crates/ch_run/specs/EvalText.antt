@@ -2,17 +2,17 @@
 use Rattle.std.specs.Prelude.{ℕ, ℤ, List, [], ◌∷◌, ◌++◌, codes, take, drop}
 use Rattle.std.specs.Fmt.{decimal, signed_decimal}
 use Rattle.std.specs.List.{flat_map}
+use Rattle.ch_deck.specs.declared.program.Program.{Program}
 use Rattle.ch_nest.specs.declared.nest.ArrayDecl.{ArrayDecl}
 use Rattle.ch_nest.specs.Arrays.{cells_in}
 use Rattle.ch_nest.specs.Fills.{filled_cells}
 use Rattle.ch_nest.specs.Run.{run}
-use Rattle.ch_run.specs.declared.program.Program.{Program}
 
 -- an extent in brackets
 abbrev pub extent_text : ℕ → List ℕ
 extent_text e = codes "[" ++ decimal e ++ codes "]"
 
--- an element after a space
+-- a number after a space
 abbrev pub element_text : ℤ → List ℕ
 element_text z = codes " " ++ signed_decimal z
 
@@ -29,5 +29,9 @@ array_lines (d ∷ ds) cells = array_line d (take (cells_in d.extents) cells) ++
 abbrev pub cells_after : Program → List ℤ
 cells_after p = run p.nest (filled_cells p.nest.arrays p.fills)
 
-unfoldable pub eval_text : Program → List ℕ
-eval_text p = codes "program " ++ p.name ++ codes "\n" ++ array_lines p.nest.arrays (cells_after p) ++ codes "end\n"
+-- a program's name and its arrays
+unfoldable pub program_text : Program → List ℕ
+program_text p = codes "program " ++ p.name ++ codes "\n" ++ array_lines p.nest.arrays (cells_after p)
+
+unfoldable pub eval_text : List Program → List ℕ
+eval_text ps = flat_map program_text ps ++ codes "end\n"

@@ -1,0 +1,30 @@
+-- What the type of a deck keeps of its programs.
+use Rattle.std.specs.Prelude.{◌≡◌, ℕ, ◌≤◌, Bool, true, false, not, ◌&&◌, ◌||◌, IsTrue, List, [], ◌∷◌, length, map}
+use Rattle.std.specs.List.{All}
+use Rattle.std.specs.Str.{bytes_eq}
+use Rattle.ch_deck.specs.declared.program.Program.{Program}
+use Rattle.ch_nest.specs.Sound.{is_sound}
+
+-- the most programs of a deck
+abbrev pub most_programs : ℕ
+most_programs = 16
+
+-- the name stands among these
+abbrev pub has_name : List ℕ → List (List ℕ) → Bool
+has_name name [] = false
+has_name name (n ∷ ns) = bytes_eq name n || has_name name ns
+
+-- no name stands twice
+abbrev pub names_differ : List (List ℕ) → Bool
+names_differ [] = true
+names_differ (n ∷ ns) = not (has_name n ns) && names_differ ns
+
+-- it can be run, and each array has a fill
+pub record IsProgram (p : Program) : Type 0 where
+  pub sound : IsTrue (is_sound p.nest)
+  pub filled : length p.fills ≡ length p.nest.arrays
+
+pub record IsDeck (programs : List Program) : Type 0 where
+  pub few : length programs ≤ most_programs
+  pub differ : IsTrue (names_differ (map (λ p. p.name) programs))
+  pub each : All IsProgram programs
