@@ -1,5 +1,7 @@
-pub mod Rolls
-pub mod Orders
 pub mod Blocks
-pub mod Program
 pub mod Closing
+pub mod ItemCases
+pub mod Orders
+pub mod Program
+pub mod Rolls
+pub mod Sorted

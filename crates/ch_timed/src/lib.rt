@@ -3,7 +3,9 @@
 #![tactic(auto)]
 
 mod element;
+mod laws;
 mod timed;
 
 pub use element::{Cell, Element, Identity, Label};
+pub use laws::{start_in_order, start_is_run};
 pub use timed::Timed;
