@@ -1,5 +1,6 @@
 pub mod Blocks
 pub mod Closing
+pub mod Identities
 pub mod ItemCases
 pub mod Orders
 pub mod Program
