@@ -1,8 +1,11 @@
 pub mod Blocks
+pub mod ClosedUp
 pub mod Closing
 pub mod Identities
 pub mod ItemCases
 pub mod Orders
+pub mod Prefixes
 pub mod Program
 pub mod Rolls
 pub mod Sorted
+pub mod WellFormed

@@ -1,23 +1,39 @@
 -- A list whose vectors ascend is in order, and the test of neighbours tells it.
 use Rattle.std.proofs.Common.{◌≡◌, refl, sym, ap, ◌∙◌, subst, ℤ, true, List, [], ◌∷◌, ◌⊎◌, inl, inr}
-use Rattle.std.proofs.lemmas.Bool.{and_from}
+use Rattle.std.proofs.lemmas.Bool.{and_from, and_parts}
 use Rattle.std.specs.Ordering.{int_cmp, is_lt}
-use Rattle.std.specs.declared.cmp.Ordering.TheVariants.{Less}
-use Rattle.std.specs.Cmp.{tied_itself}
-use Rattle.std.specs.Cmp.Lexicographic.{slice_cmp}
+use Rattle.std.specs.declared.cmp.Ordering.TheVariants.{Less, Equal, Greater}
+use Rattle.std.specs.declared.cmp.Ordering.{Ordering}
+use Rattle.std.specs.Cmp.{int_cmp_total, IsTotalOrder}
+use Rattle.std.specs.Cmp.Lexicographic.{slice_cmp, lists_total}
 use Rattle.ch_timed.specs.Members.{Each, In}
 use Rattle.ch_timed.specs.Ordered.{ordered}
 use Rattle.ch_timed.specs.declared.element.Element.{Element}
 use Rattle.ch_timed.specs.Timed.{in_order, vectors_ascend}
-use Rattle.ch_timed.proofs.Orders.{IsAscending, OneEach, at_each, not_itself, ascending_same, ordered_ascends, from_order, to_order}
+use Rattle.ch_timed.proofs.Orders.{IsAscending, OneEach, at_each, each_more, not_itself, ascending_same, ordered_ascends, from_order, to_order}
 
-abbrev by_vector : Element → List ℤ
-by_vector e = e.vector
+lists_order : IsTotalOrder (slice_cmp int_cmp)
+lists_order = lists_total int_cmp_total
+
+is_lt_Less : (o : Ordering) → is_lt o ≡ true → o ≡ Less
+is_lt_Less Less h = refl
+is_lt_Less Equal h = cc
+is_lt_Less Greater h = cc
 
 pub ascends_adjacent : (list : List Element) → IsAscending (λ e. e.vector) list → vectors_ascend list ≡ true
 ascends_adjacent [] a = refl
 ascends_adjacent (x ∷ []) a = refl
 ascends_adjacent (x ∷ y ∷ more) a = and_from _ _ (ap is_lt a.0.0) (ascends_adjacent (y ∷ more) a.1)
+
+-- and the other way round: of neighbours that ascend each comes before all that stand behind it
+pub adjacent_ascends : (list : List Element) → vectors_ascend list ≡ true → IsAscending (λ e. e.vector) list
+adjacent_ascends [] h = tt
+adjacent_ascends (x ∷ []) h = (tt, tt)
+adjacent_ascends (x ∷ y ∷ more) h =
+    let p = and_parts _ _ h in
+    let r = adjacent_ascends (y ∷ more) p.1 in
+    let l : slice_cmp int_cmp x.vector y.vector ≡ Less = is_lt_Less _ p.0 in
+    ((l, each_more _ _ more (λ z k. lists_order.trans x.vector y.vector z.vector l k) r.0), r)
 
 module _ {A : Type 0} (key : A → List ℤ) where
   -- members of an ascending list at one key are one

@@ -7,5 +7,5 @@ mod laws;
 mod timed;
 
 pub use element::{Cell, Element, Identity, Label};
-pub use laws::{start_in_order, start_is_run};
+pub use laws::{closing_keeps_order, start_in_order, start_is_run, start_well_formed};
 pub use timed::Timed;
