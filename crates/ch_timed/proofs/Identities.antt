@@ -15,11 +15,10 @@ use Rattle.ch_nest.specs.declared.nest.Item.TheFolds.{fold-roll-Item}
 use Rattle.ch_nest.specs.Limits.{most_statements}
 use Rattle.ch_nest.specs.Run.{count, low_of, high_of}
 use Rattle.ch_nest.specs.Shape.{Numbering, after, each_numbered, numbered_step, numbered, all_numbered}
-use Rattle.ch_timed.specs.declared.element.Label.{Label}
 use Rattle.ch_timed.specs.declared.element.Label.TheVariants.{Stmt}
 use Rattle.ch_timed.specs.declared.element.Element.{Element}
 use Rattle.ch_timed.specs.Members.{Each}
-use Rattle.ch_timed.specs.Start.{Listing, at_places, turns_listed, start_item}
+use Rattle.ch_timed.specs.Start.{at_places, turns_listed, start_item}
 use Rattle.ch_timed.specs.Timed.{same_label, same_identity}
 use Rattle.ch_timed.specs.Vectors.{same_numbers}
 use Rattle.ch_timed.proofs.Blocks.{int_less, cmp_front, each_both, each_each}
@@ -111,7 +110,7 @@ inside_loop lows highs items h iters vector k m e =
     subst (Each (Inside iters k m)) (sym (start_loop lows highs items iters vector))
     (turns_each (Inside iters k m) (count (low_of lows iters) (high_of highs iters)) (low_of lows iters) (λ i. at_places 0 (map start_item items) (iters ++ i ∷ []) (vector ++ i ∷ []))
     (λ x. each_more (Inside (iters ++ x ∷ []) k m) (Inside iters k m) (at_places 0 (map start_item items) (iters ++ x ∷ []) (vector ++ x ∷ [])) (λ f w. outer iters x k m f w)
-        (items_inside items h 0 (iters ++ x ∷ []) (vector ++ x ∷ []) k m (sym (numbered_loop lows highs items k) ∙ e))))
+    (items_inside items h 0 (iters ++ x ∷ []) (vector ++ x ∷ []) k m (sym (numbered_loop lows highs items k) ∙ e))))
 
 inside_leaf : (label : ℕ) (body : Body) → AllInside (Assign label body)
 inside_leaf label body iters vector k m e =
@@ -156,8 +155,8 @@ ValuesBegin v e = (rest : List ℤ) × (e.identity.iters ≡ v ++ rest)
 values_differ : (v : List ℤ) (x y : ℤ) (e f : Element) → ValuesBegin (v ++ x ∷ []) e → ValuesBegin (v ++ y ∷ []) f → x <ℤ y → Differ e f
 values_differ v x y e f b c h =
     let less : slice_cmp int_cmp e.identity.iters f.identity.iters ≡ Less =
-        ap₂ (slice_cmp int_cmp) (b.1 ∙ append_assoc v (x ∷ []) b.0) (c.1 ∙ append_assoc v (y ∷ []) c.0)
-        ∙ cmp_front v (x ∷ b.0) (y ∷ c.0) ∙ ap (λ o. ordering_then o (slice_cmp int_cmp b.0 c.0)) (int_less x y h) in
+    ap₂ (slice_cmp int_cmp) (b.1 ∙ append_assoc v (x ∷ []) b.0) (c.1 ∙ append_assoc v (y ∷ []) c.0)
+    ∙ cmp_front v (x ∷ b.0) (y ∷ c.0) ∙ ap (λ o. ordering_then o (slice_cmp int_cmp b.0 c.0)) (int_less x y h) in
     ap (λ o. same_label e.identity.label f.identity.label && is_eq o) less ∙ and_nothing _
 
 abbrev Turned : List ℤ → ℤ → ℕ → Element → Type 0
@@ -187,7 +186,7 @@ items_differ (i ∷ is) h p iters vector k m e =
     pairwise_both Differ (start_item i iters (vector ++ pos p ∷ [])) (at_places (suc p) (map start_item is) iters vector)
     (h.0 iters (vector ++ pos p ∷ []) k q.0 q.1.0) (items_differ is h.1 (suc p) iters vector q.0 m q.1.1)
     (each_each (Inside iters k q.0) (Inside iters q.0 m) Differ _ _ (λ e f a b. labels_differ iters k q.0 m e f a b)
-        (inside i iters (vector ++ pos p ∷ []) k q.0 q.1.0) (items_inside is (all_inside is) (suc p) iters vector q.0 m q.1.1))
+    (inside i iters (vector ++ pos p ∷ []) k q.0 q.1.0) (items_inside is (all_inside is) (suc p) iters vector q.0 m q.1.1))
 
 differ_loop : (lows highs : List Form) (items : List Item) → Each AllDiffer items → AllDiffer (Loop lows highs items)
 differ_loop lows highs items h iters vector k m e =

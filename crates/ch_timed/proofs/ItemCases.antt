@@ -1,5 +1,5 @@
 -- Induction on the items of a nest: a fact of a loop may rest on the facts of the items of its body.
-use Rattle.std.proofs.Common.{◌≡◌, refl, sym, ap, ◌∙◌, subst, ℕ, List, [], ◌∷◌, map}
+use Rattle.std.proofs.Common.{sym, subst, ℕ, List, [], ◌∷◌, map}
 use Rattle.ch_affine.specs.Form.{Form}
 use Rattle.ch_nest.specs.declared.nest.Body.{Body}
 use Rattle.ch_nest.specs.declared.nest.Item.{Item, map-Item, roll-Item}

@@ -1,6 +1,7 @@
 pub mod Blocks
 pub mod ClosedUp
 pub mod Closing
+mod Examples
 pub mod Identities
 pub mod ItemCases
 pub mod Orders

@@ -1,8 +1,8 @@
 -- In the list of a nest the places of no piece are a prefix of those of another one: two elements stand at one place of
 -- each body around both, or part at a place that both have.
-use Rattle.std.proofs.Common.{◌≡◌, refl, sym, ap, ap₂, ◌∙◌, subst, ℕ, zero, suc, ◌+◌, ◌<◌, ◌≤◌, ℤ, pos, ◌+ℤ◌, ◌<ℤ◌, Bool, true, false, not, ◌&&◌, ◌||◌, List, [], ◌∷◌, ◌++◌, length, take, map, arith, append_assoc}
+use Rattle.std.proofs.Common.{◌≡◌, refl, sym, ap, ap₂, ◌∙◌, subst, ℕ, zero, suc, ℤ, pos, ◌+ℤ◌, ◌<ℤ◌, Bool, true, false, not, ◌&&◌, ◌||◌, List, [], ◌∷◌, ◌++◌, length, take, map, arith, append_assoc}
 use Rattle.std.proofs.lemmas.Int.{ints}
-use Rattle.std.proofs.lemmas.Bool.{or_left, and_from}
+use Rattle.std.proofs.lemmas.Bool.{or_left}
 use Rattle.std.specs.Ordering.{int_cmp, ordering_then, ordering_reverse, is_eq}
 use Rattle.std.specs.declared.cmp.Ordering.{Ordering}
 use Rattle.std.specs.declared.cmp.Ordering.TheVariants.{Less, Equal, Greater}
@@ -189,7 +189,7 @@ apart_loop lows highs items h iters others v w p a =
     (subst (Across _) (sym (start_loop lows highs items others (w ++ p ∷ [])))
     (turns_each (λ e. Each (Apart e) _) (count (low_of lows iters) (high_of highs iters)) (low_of lows iters) (λ i. at_places 0 (map start_item items) (iters ++ i ∷ []) ((v ++ p ∷ []) ++ i ∷ []))
     (λ x. across_turns (count (low_of lows others) (high_of highs others)) (low_of lows others) (λ i. at_places 0 (map start_item items) (others ++ i ∷ []) ((w ++ p ∷ []) ++ i ∷ [])) _
-        (λ y. items_apart items h 0 (iters ++ x ∷ []) (others ++ y ∷ []) ((v ++ p ∷ []) ++ x ∷ []) ((w ++ p ∷ []) ++ y ∷ []) (alike_more v w p x y a)))))
+    (λ y. items_apart items h 0 (iters ++ x ∷ []) (others ++ y ∷ []) ((v ++ p ∷ []) ++ x ∷ []) ((w ++ p ∷ []) ++ y ∷ []) (alike_more v w p x y a)))))
 
 leaf_across : (label : ℕ) (body : Body) (iters others v w : List ℤ) → apart (places v) (places w) ≡ true
     → Across (start_step (Item-F.Assign label body) iters v) (start_step (Item-F.Assign label body) others w)

@@ -1,5 +1,5 @@
 -- The list of a nest is well formed.
-use Rattle.std.proofs.Common.{◌≡◌, refl, ap, ◌∙◌, ℕ, ℤ, Bool, true, ◌&&◌, Option, Some, None, is_some, List, [], ◌∷◌}
+use Rattle.std.proofs.Common.{◌≡◌, refl, ℕ, true, Option, Some, None, is_some, List, [], ◌∷◌}
 use Rattle.std.proofs.lemmas.Bool.{and_from, and_parts, not_from_false}
 use Rattle.ch_nest.specs.LoopNest.{LoopNest}
 use Rattle.ch_nest.specs.Shape.{is_nest, all_numbered}
