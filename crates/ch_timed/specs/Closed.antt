@@ -43,4 +43,4 @@ closed_vector list e = woven (ranks (pieces list) [] (places e.vector)) (values 
 
 -- the list with its places closed up
 abbrev pub closed_up : List Element → List Element
-closed_up list = in_order (map (λ e. at_vector e (woven (ranks (pieces list) [] (places e.vector)) (values e.vector))) list)
+closed_up list = in_order (map (λ e. at_vector e (closed_vector list e)) list)
