@@ -1,0 +1,9 @@
+pub mod Ascii
+pub mod Cells
+pub mod Chains
+pub mod Fitting
+pub mod Found
+pub mod Narrow
+pub mod Nested
+pub mod Repeats
+pub mod Sums

@@ -1,0 +1,11 @@
+pub mod Accesses
+pub mod Declarations
+pub mod Entries
+pub mod Expressions
+pub mod Forms
+pub mod Gives
+pub mod Heads
+pub mod Items
+pub mod Read
+pub mod Rights
+pub mod Sections

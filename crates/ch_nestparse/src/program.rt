@@ -1,0 +1,118 @@
+ghost use Rattle.std.specs.Prelude.{◌≡◌, ◌<◌, ◌≤◌, ◌^◌, ◌-◌, length, IfOk, IsTrue, take};
+ghost use Rattle.std.specs.Char.{is_ascii};
+ghost use Rattle.std.specs.List.{list_all};
+ghost use Rattle.ch_nestparse.specs.Gives.{Gives};
+ghost use Rattle.ch_nestparse.specs.Sections.{before, program_at, section_at};
+
+use crate::accesses::accesses;
+use crate::ahead::{keyword, name, sign};
+use crate::declarations::{Declared, arrays, lets};
+use crate::items::items;
+use ch_affine::{List, Text};
+use ch_lex::{Code2, Keyword, ParseError, Sign, Token};
+use ch_nest::{ArrayDecl, Fill, Item, Nest};
+use std::alloc::Global;
+
+/// Loops around one another.
+const DEEPEST: u32 = 6;
+
+/// A program: its name, its nest, how each of its arrays starts, the byte at which each of its accesses begins, in the order
+/// of its text, and the number of the first token behind it.
+#[derive(Debug, Drop)]
+pub struct ParsedProgram {
+    pub name: Text,
+    pub nest: Nest,
+    pub fills: List<Fill>,
+    pub accesses: List<u32>,
+    pub next: u32,
+}
+
+/// The parts of a program's text, before its nest is made of them.
+#[derive(Drop)]
+struct Parts {
+    name: Text,
+    arrays: List<ArrayDecl>,
+    items: List<Item>,
+    fills: List<Fill>,
+    accesses: List<u32>,
+}
+
+/// The tokens up to where `rest` begins.
+fn before<'a>(rest: &[Token], tokens: &'a [Token]) -> &'a [Token]
+    ensures { result.now ≡ before rest.now tokens.now }
+{
+    let count = tokens.len().saturating_sub(rest.len());
+    tokens.split_at(count).0
+}
+
+/// A program section.
+#[tactic(auto, unfolding(crate::specs::Sections::section_at))]
+fn section<'a>(
+    alloc: Global,
+    bytes: &[u8],
+    tokens: &'a [Token],
+) -> Result<(Parts, &'a [Token]), ParseError>
+    requires short { length bytes.now < 2 ^ 32 }
+    requires ascii { IsTrue (list_all is_ascii bytes.now) }
+    ensures exact { Gives (λ r. (record { name = r.0.name; nest = record { arrays = r.0.arrays; items = r.0.items }; fills = r.0.fills; accesses = r.0.accesses }, r.1.now)) result (section_at bytes.now tokens.now) }
+{
+    let rest = keyword(bytes, Code2::P1, Keyword::Program, tokens)?;
+    let (text, rest) = name(bytes, Code2::P1, rest)?;
+    let rest = sign(bytes, Code2::P1, Sign::LeftBrace, rest)?;
+    let (names, rest) = lets(alloc, bytes, rest)?;
+    let (declared, body) = arrays(alloc, bytes, names, rest)?;
+    let Declared {
+        names,
+        arrays,
+        fills,
+        ..
+    } = declared;
+    let mut names = names;
+    let none = List::new(alloc);
+    let (items, _label, rest) = items(alloc, bytes, &mut names, &[], DEEPEST, none, 0, body)?;
+    let name = Text::of(alloc, text)?;
+    let accesses = accesses(alloc, bytes, before(rest, body))?;
+    let parts = Parts {
+        name,
+        arrays,
+        items,
+        fills,
+        accesses,
+    };
+    Ok((parts, rest))
+}
+
+/// The program section whose first token, `program`, is token `from`: its program, or its first refusal.
+pub fn parse_program(
+    alloc: Global,
+    tokens: &[Token],
+    bytes: &[u8],
+    from: u32,
+) -> Result<ParsedProgram, ParseError>
+    requires short { length bytes.now < 2 ^ 32 }
+    requires few { length tokens.now < 2 ^ 32 }
+    requires ascii { IsTrue (list_all is_ascii bytes.now) }
+    requires from { from ≤ length tokens.now }
+    ensures exact { Gives (λ p. p) result (program_at bytes.now tokens.now from) }
+{
+    let first = tokens.split_at(from as usize).1;
+    let (parts, rest) = section(alloc, bytes, first)?;
+    let next = tokens.len().saturating_sub(rest.len()) as u32;
+    let Parts {
+        name,
+        arrays,
+        items,
+        fills,
+        accesses,
+    } = parts;
+    match Nest::new(arrays, items) {
+        None => Err(ParseError::Memory),
+        Some(nest) => Ok(ParsedProgram {
+            name,
+            nest,
+            fills,
+            accesses,
+            next,
+        }),
+    }
+}
