@@ -1,35 +1,30 @@
 -- Refusals of a deck, and the line that tells of one.
 use Rattle.std.specs.Prelude.{ℕ, ℤ, List, [], ◌∷◌, ◌++◌, codes, Option, Some, None}
-use Rattle.std.specs.Fmt.{decimal, signed_decimal}
+use Rattle.ch_deck.specs.declared.refusal.Refused.{Refused}
 use Rattle.ch_lex.specs.Codes.{code_text}
 use Rattle.ch_lex.specs.Spots.{spot_of}
 use Rattle.ch_lex.specs.declared.error.Code2.{Code2}
 use Rattle.ch_lex.specs.declared.error.Code2.TheVariants.{A1}
 use Rattle.ch_lex.specs.declared.token.Spot.{Spot}
-
--- a code, the place where there is one, and a detail, which may be empty
-pub record Refusal : Type 0 where
-  pub code : Code2
-  pub spot : Option Spot
-  pub detail : List ℕ
+use Rattle.ch_print.specs.Numbers.{integer_text, number_text}
 
 -- the detail of a parser's refusal: the number of an A1
 abbrev pub value_text : Code2 → ℤ → List ℕ
-value_text A1 value = signed_decimal value
+value_text A1 value = integer_text value
 value_text other value = []
 
 -- a refusal at a byte of the text
-abbrev pub refused_at : List ℕ → Code2 → ℕ → List ℕ → Refusal
+abbrev pub refused_at : List ℕ → Code2 → ℕ → List ℕ → Refused
 refused_at bytes code at detail = record { code = code; spot = Some (spot_of bytes at); detail = detail }
 
 abbrev pub spot_text : Option Spot → List ℕ
 spot_text None = []
-spot_text (Some s) = codes " at " ++ decimal s.line ++ codes ":" ++ decimal s.column
+spot_text (Some s) = codes " at " ++ number_text s.line ++ codes ":" ++ number_text s.column
 
 abbrev pub detail_text : List ℕ → List ℕ
 detail_text [] = []
 detail_text (b ∷ bs) = codes ": " ++ b ∷ bs
 
 -- the line that the program writes
-unfoldable pub refusal_line : Refusal → List ℕ
+unfoldable pub refusal_line : Refused → List ℕ
 refusal_line r = codes "refused " ++ code_text r.code ++ spot_text r.spot ++ detail_text r.detail ++ codes "\n"

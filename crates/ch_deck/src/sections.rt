@@ -12,6 +12,9 @@ use std::alloc::Global;
 
 const MOST_PROGRAMS: usize = 16;
 
+/// A 17th program is refused, so no more sections are begun.
+const MOST_SECTIONS: u32 = 17;
+
 /// Which section begins at a place.
 #[derive(Clone, Copy, Debug)]
 pub(crate) enum Sort {
@@ -80,4 +83,91 @@ fn named(bytes: &[u8], found: &[Found], tokens: &[Token]) -> Result<(), ParseErr
         }
     }
     Ok(())
+}
+
+/// The program section that begins with token `from`.
+#[tactic(auto, unfolding(crate::specs::Sections::found_at))]
+fn found_at(
+    alloc: Global,
+    bytes: &[u8],
+    tokens: &[Token],
+    from: u32,
+    found: &[Found],
+) -> Result<Found, ParseError>
+    requires short { length bytes.now < 2 ^ 32 }
+    requires few { length tokens.now < 2 ^ 32 }
+    requires ascii { IsTrue (list_all is_ascii bytes.now) }
+    requires from { from < length tokens.now }
+    ensures { Gives (λ f. f) result (found_at bytes.now tokens.now from found.now) }
+{
+    let behind = tokens.split_at(from as usize + 1).1;
+    named(bytes, found, behind)?;
+    let program = parse_program(alloc, tokens, bytes, from)?;
+    Ok(Found {
+        program,
+        name_at: place(bytes, behind),
+    })
+}
+
+/// The section that begins with token `from`, after those that were found.
+#[tactic(auto, unfolding(crate::specs::Sections::section_from))]
+fn section_from(
+    alloc: Global,
+    bytes: &[u8],
+    tokens: &[Token],
+    from: u32,
+    found: &[Found],
+) -> Result<Found, ParseError>
+    requires short { length bytes.now < 2 ^ 32 }
+    requires few { length tokens.now < 2 ^ 32 }
+    requires ascii { IsTrue (list_all is_ascii bytes.now) }
+    requires from { from < length tokens.now }
+    ensures { Gives (λ f. f) result (section_from bytes.now tokens.now from found.now) }
+{
+    let here = tokens.split_at(from as usize).1;
+    match sort_of(seen(bytes, here)) {
+        Sort::Program => found_at(alloc, bytes, tokens, from, found),
+        Sort::Later => Err(refused(Code2::Z2, place(bytes, here))),
+        Sort::Other => Err(refused(Code2::D1, place(bytes, here))),
+    }
+}
+
+/// The sections from token `from` on, at most so many, behind those that were found.
+#[tactic(auto, unfolding(crate::specs::Sections::sections_from))]
+fn sections_from(
+    alloc: Global,
+    left: u32,
+    bytes: &[u8],
+    tokens: &[Token],
+    from: u32,
+    found: List<Found>,
+) -> Result<List<Found>, ParseError>
+    requires short { length bytes.now < 2 ^ 32 }
+    requires few { length tokens.now < 2 ^ 32 }
+    requires ascii { IsTrue (list_all is_ascii bytes.now) }
+    requires from { from ≤ length tokens.now }
+    ensures { Gives (λ all. all) result (sections_from left bytes.now tokens.now from found) }
+{
+    if left == 0 || from as usize >= tokens.len() {
+        return Ok(found);
+    }
+    let section = section_from(alloc, bytes, tokens, from, found.as_slice())?;
+    let next = section.program.next;
+    let mut found = found;
+    found.push(section)?;
+    sections_from(alloc, left - 1, bytes, tokens, next, found)
+}
+
+/// The sections of a text.
+pub(crate) fn sections(
+    alloc: Global,
+    bytes: &[u8],
+    tokens: &[Token],
+) -> Result<List<Found>, ParseError>
+    requires short { length bytes.now < 2 ^ 32 }
+    requires few { length tokens.now < 2 ^ 32 }
+    requires ascii { IsTrue (list_all is_ascii bytes.now) }
+    ensures { Gives (λ all. all) result (sections_of bytes.now tokens.now) }
+{
+    sections_from(alloc, MOST_SECTIONS, bytes, tokens, 0, List::new(alloc))
 }

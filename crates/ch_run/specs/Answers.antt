@@ -3,7 +3,8 @@ use Rattle.std.specs.Prelude.{◌≡◌, ℕ, List, ◌++◌, Option, Result, Ok
 use Rattle.std.specs.Io.KnownBytes.{Appends}
 use Rattle.ch_deck.specs.Decks.{deck_of}
 use Rattle.ch_deck.specs.declared.program.Program.{Program}
-use Rattle.ch_deck.specs.Refusals.{Refusal, refusal_line}
+use Rattle.ch_deck.specs.declared.refusal.Refused.{Refused}
+use Rattle.ch_deck.specs.Refusals.{refusal_line}
 use Rattle.ch_io.specs.Streams.{AppendsPart}
 use Rattle.ch_run.specs.declared.words.Command.{Command}
 use Rattle.ch_run.specs.declared.words.Command.TheVariants.{Eval, Show}
@@ -16,7 +17,7 @@ IsTextOf Eval programs text = text ≡ eval_text programs
 IsTextOf Show programs text = ShowsAll programs text
 
 -- the status and the text of an accepted deck, or of a refusal
-abbrev pub IsAnswer : Command → Result (List Program) Refusal → ℕ → List ℕ → Type 0
+abbrev pub IsAnswer : Command → Result (List Program) Refused → ℕ → List ℕ → Type 0
 IsAnswer c (Ok programs) status text = (status ≡ 0) × IsTextOf c programs text
 IsAnswer c (Err refusal) status text = (status ≡ 1) × (text ≡ refusal_line refusal)
 

@@ -1,20 +1,20 @@
 -- The text of `eval`.
 use Rattle.std.specs.Prelude.{ℕ, ℤ, List, [], ◌∷◌, ◌++◌, codes, take, drop}
-use Rattle.std.specs.Fmt.{decimal, signed_decimal}
 use Rattle.std.specs.List.{flat_map}
 use Rattle.ch_deck.specs.declared.program.Program.{Program}
 use Rattle.ch_nest.specs.declared.nest.ArrayDecl.{ArrayDecl}
 use Rattle.ch_nest.specs.Arrays.{cells_in}
 use Rattle.ch_nest.specs.Fills.{filled_cells}
 use Rattle.ch_nest.specs.Run.{run}
+use Rattle.ch_print.specs.Numbers.{integer_text, number_text}
 
 -- an extent in brackets
 abbrev pub extent_text : ℕ → List ℕ
-extent_text e = codes "[" ++ decimal e ++ codes "]"
+extent_text e = codes "[" ++ number_text e ++ codes "]"
 
 -- a number after a space
 abbrev pub element_text : ℤ → List ℕ
-element_text z = codes " " ++ signed_decimal z
+element_text z = codes " " ++ integer_text z
 
 -- an array's name, extents and elements
 unfoldable pub array_line : ArrayDecl → List ℤ → List ℕ

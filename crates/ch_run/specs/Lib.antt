@@ -1,4 +1,5 @@
 pub mod Commands
+pub mod Added
 pub mod EvalText
 pub mod ShowText
 pub mod Answers

@@ -1,24 +1,20 @@
-ghost use Rattle.std.specs.Prelude.{◌≡◌, ◌≢◌, ◌≤◌, ◌↔◌, ◌⊎◌, IfOk, IfSome, IsTrue, Some, drop, map};
+ghost use Rattle.std.specs.Prelude.{◌≡◌, ◌≢◌, ◌≤◌, ◌⊎◌, IfOk, IfSome, None, Some, drop, map};
 ghost use Rattle.std.specs.String.{string_bytes};
 ghost use Rattle.std.specs.Io.KnownBytes.{Appends};
 ghost use Rattle.ch_io.specs.Faults.{HasRisen};
 ghost use Rattle.ch_io.specs.Streams.{AppendsPart};
-ghost use Rattle.ch_run.specs.Out.{AnswersAs, IsEval, Writes, most_read, out, usage};
+ghost use Rattle.ch_run.specs.Answers.{Answers, AnswersInPart, most_read};
+ghost use Rattle.ch_run.specs.Commands.{command_of, usage};
 
-use crate::eval::{MOST_BYTES, evaluated};
+use crate::answer::answer;
+use crate::words::{Command, command_of};
 use ch_io::{Gate, ReadError, Sink, Source, read_input, write_all};
 use std::alloc::Global;
 use std::sync::Wait;
 use std::thread::Threads;
 
-fn is_eval(words: &[String]) -> bool
-    ensures { IsTrue result ↔ IsEval (map string_bytes words.now) }
-{
-    match words {
-        [word] => word.as_str() == "eval",
-        _ => false,
-    }
-}
+/// The most bytes that are read of an input: one more than it may have.
+const MOST_READ: usize = 1048577;
 
 /// Writes the usage line.
 fn write_usage<K: Sink>(sink: &mut K) -> u8
@@ -32,6 +28,36 @@ fn write_usage<K: Sink>(sink: &mut K) -> u8
     match write_all(sink, line) {
         Ok(()) => 2,
         Err(_) => 4,
+    }
+}
+
+/// Reads the input, answers it, and writes the text.
+fn carried_out<S: Source, K: Sink>(
+    alloc: Global,
+    command: Command,
+    source: &mut S,
+    sink: &mut K,
+) -> u8
+    ensures known { result ≤ 5 }
+    ensures words { result ≢ 2 }
+    ensures answer { result ≤ 1 → IfSome (S.left source.old) (λ bytes. Answers command bytes (K.taken sink.old) (K.taken sink.new) result) }
+    ensures read { result ≤ 1 → IfSome (S.left source.old) (λ bytes. S.left source.new ≡ Some (drop most_read bytes)) }
+    ensures read_fault { result ≡ 3 → HasRisen (S.faults source.old) (S.faults source.new) }
+    ensures read_nothing { result ≡ 3 → K.taken sink.new ≡ K.taken sink.old }
+    ensures write_fault { result ≡ 4 → HasRisen (K.faults sink.old) (K.faults sink.new) }
+    ensures write_part { result ≡ 4 → IfSome (S.left source.old) (λ bytes. AnswersInPart command bytes (K.taken sink.old) (K.taken sink.new)) }
+    ensures memory { result ≡ 5 → K.taken sink.new ≡ K.taken sink.old }
+{
+    match read_input(alloc, source, MOST_READ) {
+        Err(ReadError::Failed) => 3,
+        Err(ReadError::Memory) => 5,
+        Ok(bytes) => match answer(alloc, command, &bytes) {
+            Err(_) => 5,
+            Ok(answer) => match write_all(sink, answer.text.as_bytes()) {
+                Ok(()) => answer.status,
+                Err(_) => 4,
+            },
+        },
     }
 }
 
@@ -49,15 +75,15 @@ pub fn still<S: Source, K: Sink>(
     ensures known { result ≤ 5 }
 
     // What was written at 0 and 1, and which of the two it is.
-    ensures answer { result ≤ 1 → IfSome (S.left source.old) (λ bytes. Writes (K.taken sink.old) (K.taken sink.new) result (out bytes)) }
+    ensures answer { result ≤ 1 → IfSome (command_of (map string_bytes words.now)) (λ c. IfSome (S.left source.old) (λ bytes. Answers c bytes (K.taken sink.old) (K.taken sink.new) result)) }
     // All of the input was read, but what is past the limit by more than a byte.
     ensures read { result ≤ 1 → IfSome (S.left source.old) (λ bytes. S.left source.new ≡ Some (drop most_read bytes)) }
 
-    // The usage line comes exactly for other words, and then nothing is read.
+    // The usage line comes exactly for words that call for no command, and then nothing is read.
     ensures usage { result ≡ 2 → Appends (K.taken sink.old) (K.taken sink.new) usage }
-    ensures other_words { result ≡ 2 → IsEval (map string_bytes words.now) → ⊥ }
-    ensures usable_words { result ≢ 2 → result ≢ 4 → IsEval (map string_bytes words.now) }
-    ensures unread { (IsEval (map string_bytes words.now) → ⊥) → S.left source.new ≡ S.left source.old }
+    ensures other_words { result ≡ 2 → command_of (map string_bytes words.now) ≡ None }
+    ensures usable_words { command_of (map string_bytes words.now) ≡ None → (result ≡ 2) ⊎ (result ≡ 4) }
+    ensures unread { command_of (map string_bytes words.now) ≡ None → S.left source.new ≡ S.left source.old }
 
     // A failed read.
     ensures read_fault { result ≡ 3 → HasRisen (S.faults source.old) (S.faults source.new) }
@@ -65,25 +91,15 @@ pub fn still<S: Source, K: Sink>(
 
     // A failed write, and the front of the text that was written before it.
     ensures write_fault { result ≡ 4 → HasRisen (K.faults sink.old) (K.faults sink.new) }
-    ensures write_part { result ≡ 4 → IsEval (map string_bytes words.now) → IfSome (S.left source.old) (λ bytes. AppendsPart (K.taken sink.old) (K.taken sink.new) (out bytes).text) }
-    ensures usage_part { result ≡ 4 → (IsEval (map string_bytes words.now) → ⊥) → AppendsPart (K.taken sink.old) (K.taken sink.new) usage }
+    ensures write_part { result ≡ 4 → IfSome (command_of (map string_bytes words.now)) (λ c. IfSome (S.left source.old) (λ bytes. AnswersInPart c bytes (K.taken sink.old) (K.taken sink.new))) }
+    ensures usage_part { result ≡ 4 → command_of (map string_bytes words.now) ≡ None → AppendsPart (K.taken sink.old) (K.taken sink.new) usage }
 
     // Want of memory.
     ensures memory { result ≡ 5 → K.taken sink.new ≡ K.taken sink.old }
 {
-    if !is_eval(words) {
-        return write_usage(sink);
-    }
-    match read_input(alloc, source, MOST_BYTES + 1) {
-        Err(ReadError::Failed) => 3,
-        Err(ReadError::Memory) => 5,
-        Ok(bytes) => match evaluated(alloc, &bytes) {
-            Err(_) => 5,
-            Ok(answer) => match write_all(sink, &answer.text) {
-                Ok(()) => answer.status,
-                Err(_) => 4,
-            },
-        },
+    match command_of(words) {
+        None => write_usage(sink),
+        Some(command) => carried_out(alloc, command, source, sink),
     }
 }
 
@@ -101,15 +117,15 @@ pub fn top<R: Threads + Wait + Sync, S: Source, K: Sink, G: Gate + Sync>(
     ensures known { result ≤ 5 }
 
     // What was written at 0 and 1, and which of the two it is.
-    ensures answer { result ≤ 1 → IfSome (S.left source.old) (λ bytes. Writes (K.taken sink.old) (K.taken sink.new) result (out bytes)) }
+    ensures answer { result ≤ 1 → IfSome (command_of (map string_bytes words.now)) (λ c. IfSome (S.left source.old) (λ bytes. Answers c bytes (K.taken sink.old) (K.taken sink.new) result)) }
     // All of the input was read, but what is past the limit by more than a byte.
     ensures read { result ≤ 1 → IfSome (S.left source.old) (λ bytes. S.left source.new ≡ Some (drop most_read bytes)) }
 
-    // The usage line comes exactly for other words, and then nothing is read.
+    // The usage line comes exactly for words that call for no command, and then nothing is read.
     ensures usage { result ≡ 2 → Appends (K.taken sink.old) (K.taken sink.new) usage }
-    ensures other_words { result ≡ 2 → IsEval (map string_bytes words.now) → ⊥ }
-    ensures usable_words { result ≢ 2 → result ≢ 4 → IsEval (map string_bytes words.now) }
-    ensures unread { (IsEval (map string_bytes words.now) → ⊥) → S.left source.new ≡ S.left source.old }
+    ensures other_words { result ≡ 2 → command_of (map string_bytes words.now) ≡ None }
+    ensures usable_words { command_of (map string_bytes words.now) ≡ None → (result ≡ 2) ⊎ (result ≡ 4) }
+    ensures unread { command_of (map string_bytes words.now) ≡ None → S.left source.new ≡ S.left source.old }
 
     // A failed read.
     ensures read_fault { result ≡ 3 → HasRisen (S.faults source.old) (S.faults source.new) }
@@ -117,8 +133,8 @@ pub fn top<R: Threads + Wait + Sync, S: Source, K: Sink, G: Gate + Sync>(
 
     // A failed write, and the front of the text that was written before it.
     ensures write_fault { result ≡ 4 → HasRisen (K.faults sink.old) (K.faults sink.new) }
-    ensures write_part { result ≡ 4 → IsEval (map string_bytes words.now) → IfSome (S.left source.old) (λ bytes. AppendsPart (K.taken sink.old) (K.taken sink.new) (out bytes).text) }
-    ensures usage_part { result ≡ 4 → (IsEval (map string_bytes words.now) → ⊥) → AppendsPart (K.taken sink.old) (K.taken sink.new) usage }
+    ensures write_part { result ≡ 4 → IfSome (command_of (map string_bytes words.now)) (λ c. IfSome (S.left source.old) (λ bytes. AnswersInPart c bytes (K.taken sink.old) (K.taken sink.new))) }
+    ensures usage_part { result ≡ 4 → command_of (map string_bytes words.now) ≡ None → AppendsPart (K.taken sink.old) (K.taken sink.new) usage }
 
     // Want of memory.
     ensures memory { result ≡ 5 → K.taken sink.new ≡ K.taken sink.old }

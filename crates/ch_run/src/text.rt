@@ -1,29 +1,23 @@
-ghost use Rattle.std.specs.Prelude.{◌≡◌, ◌++◌, take, drop, IsTrue, OnOk};
+ghost use Rattle.std.specs.Prelude.{◌≡◌, ◌++◌, pos, map, take, drop, IsTrue, OnOk};
 ghost use Rattle.std.specs.List.{flat_map};
 ghost use Rattle.ch_nest.specs.Shape.{arrays_fit};
-ghost use Rattle.ch_run.specs.Text.{array_line, array_lines, element_text, extent_text};
+ghost use Rattle.ch_run.specs.EvalText.{array_line, array_lines, element_text, extent_text};
 
+use ch_affine::Text;
 use ch_nest::{ArrayDecl, cells_in};
-use itoa::Buffer;
+use ch_print::{put_integer, put_number};
 use std::alloc::AllocError;
 
-pub(crate) fn put(out: &mut Vec<u8>, text: &[u8]) -> Result<(), AllocError>
-    ensures { OnOk result (out.new.items ≡ out.old.items ++ text.now) }
+fn put_extent(out: &mut Text, extent: u32) -> Result<(), AllocError>
+    ensures { OnOk result (out.new ≡ out.old ++ extent_text extent) }
 {
-    out.extend_from_slice(text)
+    out.append(b"[")?;
+    put_number(out, u64::from(extent))?;
+    out.append(b"]")
 }
 
-fn put_extent(out: &mut Vec<u8>, extent: u32) -> Result<(), AllocError>
-    ensures { OnOk result (out.new.items ≡ out.old.items ++ extent_text extent) }
-{
-    put(out, b"[")?;
-    let mut buffer = Buffer::new();
-    put(out, buffer.format(extent).as_bytes())?;
-    put(out, b"]")
-}
-
-fn put_extents(out: &mut Vec<u8>, extents: &[u32]) -> Result<(), AllocError>
-    ensures { OnOk result (out.new.items ≡ out.old.items ++ flat_map extent_text extents.now) }
+fn put_extents(out: &mut Text, extents: &[u32]) -> Result<(), AllocError>
+    ensures { OnOk result (out.new ≡ out.old ++ flat_map extent_text extents.now) }
 {
     for e in extents {
         put_extent(out, *e)?;
@@ -31,16 +25,15 @@ fn put_extents(out: &mut Vec<u8>, extents: &[u32]) -> Result<(), AllocError>
     Ok(())
 }
 
-fn put_element(out: &mut Vec<u8>, element: i64) -> Result<(), AllocError>
-    ensures { OnOk result (out.new.items ≡ out.old.items ++ element_text element) }
+fn put_element(out: &mut Text, element: i64) -> Result<(), AllocError>
+    ensures { OnOk result (out.new ≡ out.old ++ element_text element) }
 {
-    put(out, b" ")?;
-    let mut buffer = Buffer::new();
-    put(out, buffer.format(element).as_bytes())
+    out.append(b" ")?;
+    put_integer(out, element)
 }
 
-fn put_elements(out: &mut Vec<u8>, cells: &[i64]) -> Result<(), AllocError>
-    ensures { OnOk result (out.new.items ≡ out.old.items ++ flat_map element_text cells.now) }
+fn put_elements(out: &mut Text, cells: &[i64]) -> Result<(), AllocError>
+    ensures { OnOk result (out.new ≡ out.old ++ flat_map element_text cells.now) }
 {
     for z in cells {
         put_element(out, *z)?;
@@ -48,16 +41,26 @@ fn put_elements(out: &mut Vec<u8>, cells: &[i64]) -> Result<(), AllocError>
     Ok(())
 }
 
-/// An array's name, extents and elements, in a line.
-#[tactic(auto, unfolding(crate::specs::Text::array_line))]
-fn put_array(out: &mut Vec<u8>, array: &ArrayDecl, cells: &[i64]) -> Result<(), AllocError>
-    ensures { OnOk result (out.new.items ≡ out.old.items ++ array_line array.now cells.now) }
+/// Adds the static places of a piece, each after a space.
+pub(crate) fn put_places(out: &mut Text, places: &[u32]) -> Result<(), AllocError>
+    ensures { OnOk result (out.new ≡ out.old ++ flat_map element_text (map pos places.now)) }
 {
-    put(out, array.name.as_bytes())?;
+    for p in places {
+        put_element(out, i64::from(*p))?;
+    }
+    Ok(())
+}
+
+/// Adds an array's name, extents and elements, in a line.
+#[tactic(auto, unfolding(crate::specs::EvalText::array_line))]
+fn put_array(out: &mut Text, array: &ArrayDecl, cells: &[i64]) -> Result<(), AllocError>
+    ensures { OnOk result (out.new ≡ out.old ++ array_line array.now cells.now) }
+{
+    out.append(array.name.as_bytes())?;
     put_extents(out, array.extents.as_slice())?;
-    put(out, b":")?;
+    out.append(b":")?;
     put_elements(out, cells)?;
-    put(out, b"\n")
+    out.append(b"\n")
 }
 
 /// The first elements, and those after them.
@@ -68,15 +71,15 @@ fn parted(cells: &[i64], count: usize) -> (&[i64], &[i64])
     cells.split_at(count.min(cells.len()))
 }
 
-/// A line for each array, whose cells stand one after the other.
+/// Adds a line for each array, whose cells stand one after the other.
 #[tactic(auto, using(crate::proofs::Lines::lines_more))]
 pub(crate) fn put_arrays(
-    out: &mut Vec<u8>,
+    out: &mut Text,
     arrays: &[ArrayDecl],
     cells: &[i64],
 ) -> Result<(), AllocError>
     requires { IsTrue (arrays_fit arrays.now) }
-    ensures { OnOk result (out.new.items ≡ out.old.items ++ array_lines arrays.now cells.now) }
+    ensures { OnOk result (out.new ≡ out.old ++ array_lines arrays.now cells.now) }
 {
     let mut rest = cells;
     for array in arrays {
