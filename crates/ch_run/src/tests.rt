@@ -13,9 +13,9 @@ fn words_of(alloc: Global, words: &[&str]) -> Result<Vec<String>, AllocError> {
     Ok(all)
 }
 
-/// What `eval` answers to a deck that is read in pieces of five bytes and written in pieces of seven.
-fn eval(alloc: Global, deck: &[u8]) -> Result<(u8, Vec<u8>), AllocError> {
-    let words = words_of(alloc, &["eval"])?;
+/// What a command answers to a deck that is read in pieces of five bytes and written in pieces of seven.
+fn answer(alloc: Global, command: &str, deck: &[u8]) -> Result<(u8, Vec<u8>), AllocError> {
+    let words = words_of(alloc, &[command])?;
     let mut source = MemSource::new(deck.to_vec(alloc)?, 5, Vec::new(alloc));
     let mut sink = MemSink::new(alloc, 4096, 7, Vec::new(alloc))?;
     let status = still(alloc, &words, &mut source, &mut sink);
@@ -33,12 +33,9 @@ const PRODUCT_TEXT: &[u8] =
 
 #[test]
 fn programs_print_their_arrays(rt: HostRuntime) -> Result<(), Fail> {
-    let cases: [(&[u8], &[u8]); 6] = [
+    let cases: [(&[u8], &[u8]); 8] = [
+        (b"", b"end\n"),
         (PRODUCT, PRODUCT_TEXT),
-        (
-            b"program p { array A[2] = fill(1, 5); }",
-            b"program p\nA[2]: 5 6\nend\n",
-        ),
         (
             b"program w { array A[1] = fill(0, 2147483648); for (i = 0; i < 1; i++) {
 A[i] = A[i]*A[i] + A[i]*A[i]; A[i] = A[i] - 1; A[i] = A[i] * 3; } }",
@@ -53,9 +50,19 @@ A[i] = A[i]*A[i] + A[i]*A[i]; A[i] = A[i] - 1; A[i] = A[i] * 3; } }",
             b"program t\nA[3]: 0 -3 -1\nend\n",
         ),
         (b"program none { }", b"program none\nend\n"),
+        (
+            b"program p { array A[2] = fill(-1, 5); } # the first
+program q { let n = -3; array B[4] = fill(0, 1);
+for (i = max(0, n); i <= min(3, 2*1); i++) B[3 - i] = -(n + i)*2; }",
+            b"program p\nA[2]: 5 4\nprogram q\nB[4]: 1 2 4 6\nend\n",
+        ),
+        (
+            b"program big { array A[1] = fill(0, 0); for (i = 0; i < 524288; i++) A[0] = A[0] + 1; }",
+            b"program big\nA[1]: 524288\nend\n",
+        ),
     ];
     for (deck, text) in cases {
-        let (status, written) = eval(rt.alloc(), deck)?;
+        let (status, written) = answer(rt.alloc(), "eval", deck)?;
         assert_eq!(rt; written.as_slice(), text);
         assert_eq!(rt; status, 0);
     }
@@ -63,37 +70,52 @@ A[i] = A[i]*A[i] + A[i]*A[i]; A[i] = A[i] - 1; A[i] = A[i] * 3; } }",
 }
 
 #[test]
-fn other_inputs_are_refused(rt: HostRuntime) -> Result<(), Fail> {
-    let refused: [&[u8]; 24] = [
-        b"",
-        b"program p { array A[4] = fill(0, 0);\nfor (i = 0; i < 3; i++)\nfor (j = 0; j < 3; j++)\nA[i+j] = 1; }",
-        b"program p { array A[4] = fill(0, 0); for (i = 0; i < 5; i++) A[i] = 1; }",
-        b"program p { array A[1] = fill(0, 0); for (i = 0; i < 524289; i++) A[0] = 1; }",
-        b"program p { array A[1] = fill(0, 0); A[0] = B[0]; }",
-        b"program p { array A[1] = fill(0, 0); A[0] = i; }",
-        b"program p { array A[1] = fill(0, 0); array A[1] = fill(0, 0); }",
-        b"program p { let A = 1; array A[1] = fill(0, 0); }",
-        b"program p { let n = 1; array A[1] = fill(0, 0); for (n = 0; n < 1; n++) A[0] = 1; }",
-        b"program p { array A[1] = fill(0, 0); for (i = i; i < 1; i++) A[0] = 1; }",
-        b"program p { array A[1] = fill(0, 0); for (i = 0; j < 1; i++) A[0] = 1; }",
-        b"program p { array for[1] = fill(0, 0); }",
-        b"program p { array A = fill(0, 0); }",
-        b"program p { array A[0] = fill(0, 0); }",
-        b"program p { array A[262145] = fill(0, 0); }",
-        b"program p { array A[1][1][1][1][1] = fill(0, 0); }",
-        b"program p { array A[2][2] = fill(0, 0); A[0] = 1; }",
-        b"program p { array A[1] = fill(0, 0); A[0] = -1; }",
-        b"program p { array A[1] = fill(0, 0); A[0] = (1); }",
-        b"program p { array A[1] = fill(0, 0); for (i = 1073741825; i < 2; i++) A[0] = 1; }",
-        b"program p { array A[1] = fill(0, 0); A[0] = 2147483649; }",
-        b"program p { } # a comment",
-        b"program p { } program q { }",
-        b"program p { \x80 }",
+fn faulty_decks_are_refused_with_their_first_fault(rt: HostRuntime) -> Result<(), Fail> {
+    let cases: [(&[u8], &[u8]); 10] = [
+        (b"program p {", b"refused P1 at 1:12\n"),
+        (b"program p @", b"refused L2 at 1:11\n"),
+        (b"\x80", b"refused L1 at 1:1\n"),
+        (
+            b"program p { array A[4] = fill(0, 0);\nfor (i = 0; i < 3; i++)\nfor (j = 0; j < 3; j++)\nA[i+j] = 1; }",
+            b"refused S2 at 4:1: S0(2,2) A[4]\n",
+        ),
+        (
+            b"program p { array A[4] = fill(0, 0); for (i = 0; i < 2; i++)\nA[i*i] = 1; }",
+            b"refused P4 at 2:4\n",
+        ),
+        (
+            b"program p { array A[4] = fill(0, 0); for (i = 0; i < 2; i++)\nA[1073741825*i] = 1; }",
+            b"refused A1 at 2:3: 1073741825\n",
+        ),
+        (
+            b"program big { array A[1] = fill(0, 0); for (i = 0; i < 524289; i++) A[0] = A[0] + 1; }",
+            b"refused S1 at 1:9\n",
+        ),
+        (
+            b"program tri { array A[4][4] = fill(0, 0);
+for (i = 0; i < 4; i++) for (j = 0; j < i; j++) A[i][j] = 10*i + j; }
+recipe r(T) { tile(0, 2, T, 1); }",
+            b"refused Z2 at 3:1\n",
+        ),
+        (
+            b"program p { array A[1] = fill(0, 0); A[0] = (((((((((((((((((((((((((((((((((",
+            b"refused P1 at 1:77\n",
+        ),
+        (b"program p { } program p { }", b"refused D3 at 1:23\n"),
     ];
-    for deck in refused {
-        let (status, written) = eval(rt.alloc(), deck)?;
-        assert_eq!(rt; written.as_slice(), b"refused Z1\n".as_slice());
+    for (deck, text) in cases {
+        let (status, written) = answer(rt.alloc(), "eval", deck)?;
+        assert_eq!(rt; written.as_slice(), text);
         assert_eq!(rt; status, 1);
+    }
+    Ok(())
+}
+
+#[test]
+fn each_front_of_a_deck_is_read_or_refused(rt: HostRuntime) -> Result<(), Fail> {
+    for k in 0..PRODUCT.len() {
+        let (status, _) = answer(rt.alloc(), "eval", &PRODUCT[..k])?;
+        assert!(rt; status <= 1);
     }
     Ok(())
 }
@@ -107,6 +129,19 @@ fn an_input_past_the_limit_is_refused_by_its_length(rt: HostRuntime) -> Result<(
     let mut sink = MemSink::new(alloc, 64, 64, Vec::new(alloc))?;
     let status = still(alloc, &words, &mut source, &mut sink);
     assert_eq!(rt; sink.taken(), b"refused D10\n".as_slice());
+    assert_eq!(rt; status, 1);
+    Ok(())
+}
+
+#[test]
+fn parentheses_without_a_program_are_refused_at_the_first(rt: HostRuntime) -> Result<(), Fail> {
+    let alloc = rt.alloc();
+    let words = words_of(alloc, &["eval"])?;
+    let parentheses = vec![in alloc; b'('; 1048576]?;
+    let mut source = MemSource::new(parentheses, 1048577, Vec::new(alloc));
+    let mut sink = MemSink::new(alloc, 64, 64, Vec::new(alloc))?;
+    let status = still(alloc, &words, &mut source, &mut sink);
+    assert_eq!(rt; sink.taken(), b"refused D1 at 1:1\n".as_slice());
     assert_eq!(rt; status, 1);
     Ok(())
 }
