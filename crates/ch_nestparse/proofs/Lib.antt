@@ -2,8 +2,13 @@ pub mod Ascii
 pub mod Cells
 pub mod Chains
 pub mod Fitting
+pub mod FormsFit
 pub mod Found
+pub mod Meant
 pub mod Narrow
 pub mod Nested
+pub mod Places
+pub mod Posts
+pub mod Spelled
 pub mod Repeats
 pub mod Sums

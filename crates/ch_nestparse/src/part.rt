@@ -30,7 +30,7 @@ fn wide(at: u32, value: i128) -> ParseError
 }
 
 /// The part `a * x + b * y`, unless a number of it is too large.
-#[tactic(auto, using(crate::proofs::Narrow::none_wide, crate::proofs::Narrow::narrow_fits))]
+#[tactic(auto, using(crate::proofs::Narrow::combined_fits))]
 fn combined(
     alloc: Global,
     at: u32,
@@ -58,6 +58,7 @@ fn is_wide(z: i64) -> bool
 }
 
 /// The form of so many iterators that is a number everywhere.
+#[tactic(auto, using(crate::proofs::Narrow::constant_form_fits))]
 fn constant_form(alloc: Global, levels: u32, z: i64) -> Result<Aff, AllocError>
     requires levels { levels ≤ 6 }
     requires narrow { is_wide limit z ≡ false }
@@ -79,6 +80,7 @@ fn mark(coefs: &mut [i64], k: u32)
 }
 
 /// The form of so many iterators that is one of them.
+#[tactic(auto, using(crate::proofs::Narrow::iterator_form_fits))]
 fn iterator_form(alloc: Global, levels: u32, k: u32) -> Result<Aff, AllocError>
     requires { levels ≤ 6 }
     ensures exact { IfOk result (λ f. f ≡ iterator_form levels k) }
