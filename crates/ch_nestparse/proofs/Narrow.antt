@@ -77,3 +77,6 @@ constant_form_fits n z h = form_fits_by (constant_form n z) n (length-replicate 
 pub iterator_form_fits : (n k : ℕ) → IsTrue (form_fits n (iterator_form n k))
 iterator_form_fits n k =
     form_fits_by (iterator_form n k) n (simp (length-set, length-replicate)) (set_all (is_at_most most_affine) (replicate n (pos 0)) k (pos 1) (zeros n) refl) refl
+
+pub iterator_coefs_fit : (n k : ℕ) (coefs : List ℤ) → coefs ≡ slice_set (replicate n (pos 0)) k (pos 1) → IsTrue (form_fits n (record { coefs = coefs; constant = pos 0 }))
+iterator_coefs_fit n k coefs e = rw e (iterator_form_fits n k)

@@ -227,7 +227,7 @@ pub(crate) struct Declared {
 }
 
 /// One array more.
-#[tactic(auto, unfolding(crate::specs::Declarations::array_at), using(crate::proofs::Cells::some_cells))]
+#[tactic(auto, unfolding(crate::specs::Declarations::array_at))]
 fn array<'a>(
     alloc: Global,
     bytes: &[u8],
