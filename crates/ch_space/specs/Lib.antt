@@ -1,3 +1,5 @@
 pub mod Listed
 pub mod Pieces
 pub mod Keeps
+pub mod Statements
+pub mod Built

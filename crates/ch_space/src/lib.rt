@@ -2,6 +2,7 @@
 #![tactic(auto)]
 
 mod error;
+mod level;
 mod piece;
 mod space;
 
