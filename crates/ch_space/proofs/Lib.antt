@@ -1,1 +1,2 @@
 pub mod Turnings
+pub mod Findings
