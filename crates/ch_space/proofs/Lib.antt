@@ -1,2 +1,4 @@
 pub mod Turnings
 pub mod Findings
+pub mod Sums
+pub mod Shapes
