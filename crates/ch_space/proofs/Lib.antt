@@ -2,3 +2,4 @@ pub mod Turnings
 pub mod Findings
 pub mod Sums
 pub mod Shapes
+pub mod Rowed
