@@ -3,3 +3,4 @@ pub mod Findings
 pub mod Sums
 pub mod Shapes
 pub mod Rowed
+pub mod Counted
