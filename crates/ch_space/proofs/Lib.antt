@@ -1,2 +1,4 @@
 pub mod Membership
 pub mod PieceElements
+pub mod PieceNumbers
+pub mod Readings

@@ -15,7 +15,7 @@ use Rattle.ch_space.specs.Pieces.{instances}
 pub in_append : {X : Type 0} (xs ys : List X) (z : X) → In z (xs ++ ys) → In z xs ⊎ In z ys
 in_append [] ys z i = inr i
 in_append (x ∷ xs) ys z (inl k) = inl (inl k)
-in_append (x ∷ xs) ys z (inr i) = elim (in_append xs ys z i) [ | inl j ↦ inl (inr j) | inr j ↦ inr j ]
+in_append (x ∷ xs) ys z (inr i) = elim (in_append xs ys z i) [ inl j ↦ inl (inr j) | inr j ↦ inr j ]
 
 pub append_left : {X : Type 0} (xs ys : List X) (z : X) → In z xs → In z (xs ++ ys)
 append_left [] ys z i = absurd i

@@ -92,7 +92,7 @@ one_each ps a e f i j v =
     let ws = whole_in ps s.piece a s.is_piece in
     let wt = whole_in ps t.piece a t.is_piece in
     let w : (element_at s.piece s.instance).vector ≡ (element_at t.piece t.instance).vector =
-        ap (λ z. z.vector) s.is ∙ v ∙ ap (λ z. z.vector) (sym t.is) in
+    ap (λ z. z.vector) s.is ∙ v ∙ ap (λ z. z.vector) (sym t.is) in
     let ps_same = sym (element_places s.piece s.instance ws s.is_instance) ∙ ap places w ∙ element_places t.piece t.instance wt t.is_instance in
     let xs_same = sym (element_values s.piece s.instance ws s.is_instance) ∙ ap values w ∙ element_values t.piece t.instance wt t.is_instance in
     let one = same_piece ps s.piece t.piece a s.is_piece t.is_piece ps_same in
@@ -112,9 +112,10 @@ each_from_in P (x ∷ xs) h = (h x (inl refl), each_from_in P xs (λ y i. h y (i
 
 lists_append : (xs ys : List (List ℤ)) → ListsAscend xs → ListsAscend ys → ((x y : List ℤ) → In x xs → In y ys → Comes x y) → ListsAscend (xs ++ ys)
 lists_append [] ys a b h = b
-lists_append (x ∷ xs) ys a b h =
-    (each_from_in (Comes x) (xs ++ ys) (λ z i. elim (in_append xs ys z i) as (λ _. Comes x z) [ | inl j ↦ at_each (Comes x) xs a.0 z j | inr j ↦ h x z (inl refl) j ]),
-     lists_append xs ys a.1 b (λ y z i j. h y z (inr i) j))
+lists_append (x ∷ xs) ys a b h = (
+  each_from_in (Comes x) (xs ++ ys) (λ z i. elim (in_append xs ys z i) as (λ _. Comes x z) [ inl j ↦ at_each (Comes x) xs a.0 z j | inr j ↦ h x z (inl refl) j ]),
+  lists_append xs ys a.1 b (λ y z i j. h y z (inr i) j),
+)
 
 pub cons_comes : (x : ℤ) (p q : List ℤ) → Comes p q → Comes (x ∷ p) (x ∷ q)
 cons_comes x p q h = ap (λ o. ordering_then o (slice_cmp int_cmp p q)) (tied_itself int_cmp_total x) ∙ h
@@ -143,11 +144,11 @@ under_ascends zero low ps a = tt
 under_ascends (suc n) low ps a =
     lists_append (map (λ p. low ∷ p) ps) (flat_map (λ x. map (λ p. x ∷ p) ps) (upwards n (low +ℤ pos 1))) (cons_ascends low ps a) (under_ascends n (low +ℤ pos 1) ps a)
     (λ x y i j.
-        let r = in_map (λ p. low ∷ p) ps x i in
-        let t = later_head n (low +ℤ pos 1) ps y j in
-        let h : (low +ℤ pos 1) ≤ℤ t.0 = t.1.0 in
-        let k : low <ℤ t.0 = omega (arith, ints) in
-        subst (λ z. Comes z y) r.1.1 (subst (Comes (low ∷ r.0)) t.1.1.1 (less_comes low t.0 r.0 t.1.1.0 k)))
+    let r = in_map (λ p. low ∷ p) ps x i in
+    let t = later_head n (low +ℤ pos 1) ps y j in
+    let h : (low +ℤ pos 1) ≤ℤ t.0 = t.1.0 in
+    let k : low <ℤ t.0 = omega (arith, ints) in
+    subst (λ z. Comes z y) r.1.1 (subst (Comes (low ∷ r.0)) t.1.1.1 (less_comes low t.0 r.0 t.1.1.0 k)))
 
 pub box_ascends : (rs : List Range) → ListsAscend (box_points rs)
 box_ascends [] = (tt, tt)
@@ -182,11 +183,12 @@ woven_ascend : (p : Piece) (xss : List (List ℤ)) → ((xs : List ℤ) → In x
     → IsAscending (λ e. e.vector) (map (element_at p) xss)
 woven_ascend p [] h l a = tt
 woven_ascend p (xs ∷ xss) h l a =
-    let here = h xs (inl refl) in
-    (each_map (λ e. Comes (element_at p xs).vector e.vector) (element_at p) xss
-     (each_from_in (λ ys. Comes (element_at p xs).vector (element_at p ys).vector) xss
-     (λ ys i. let there = h ys (inr i) in woven_same (places_of p) xs ys (omega arith) (here ∙ sym there) ∙ at_each (Comes xs) xss a.0 ys i)),
-     woven_ascend p xss (λ ys i. h ys (inr i)) l a.1)
+    let here = h xs (inl refl) in (
+      each_map (λ e. Comes (element_at p xs).vector e.vector) (element_at p) xss
+          (each_from_in (λ ys. Comes (element_at p xs).vector (element_at p ys).vector) xss
+          (λ ys i. let there = h ys (inr i) in woven_same (places_of p) xs ys (omega arith) (here ∙ sym there) ∙ at_each (Comes xs) xss a.0 ys i)),
+      woven_ascend p xss (λ ys i. h ys (inr i)) l a.1,
+    )
 
 pub elements_ascend : (p : Piece) → IsWhole p → IsAscending (λ e. e.vector) (elements p)
 elements_ascend p w = woven_ascend p (instances p) (λ xs i. levels_of p xs w i) (length_pos p.places ∙ w.places) (instances_ascend p)

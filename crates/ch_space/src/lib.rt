@@ -4,8 +4,10 @@
 pub mod copies;
 mod error;
 mod piece;
+mod reading;
 mod space;
 
 pub use error::SpaceError;
 pub use piece::Piece;
+pub use reading::{count, group, label, piece_count, pieces, places};
 pub use space::Space;
