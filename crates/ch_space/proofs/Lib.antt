@@ -4,3 +4,7 @@ pub mod Sums
 pub mod Shapes
 pub mod Rowed
 pub mod Counted
+pub mod Membership
+pub mod PieceElements
+pub mod PieceNumbers
+pub mod Readings

@@ -3,3 +3,4 @@ pub mod Pieces
 pub mod Keeps
 pub mod Statements
 pub mod Built
+pub mod Members

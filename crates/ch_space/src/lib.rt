@@ -1,11 +1,14 @@
 //! Spaces: timed lists as pieces, each the integer points of a system of affine rows.
 #![tactic(auto)]
 
+pub mod copies;
 mod error;
 mod level;
 mod piece;
+mod reading;
 mod space;
 
 pub use error::SpaceError;
 pub use piece::Piece;
+pub use reading::{count, group, label, piece_count, pieces, places};
 pub use space::Space;
