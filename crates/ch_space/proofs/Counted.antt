@@ -18,45 +18,13 @@ use Rattle.ch_space.specs.declared.level.Level.{Level}
 use Rattle.ch_space.specs.Built.{rows_of, boxes_from, piece_of}
 use Rattle.ch_space.specs.Pieces.{instances}
 use Rattle.ch_space.specs.Statements.{Statement, sum_turns, turns_below, instances_of}
-use Rattle.ch_space.proofs.Findings.{in_append, append_left, append_right, nth_is}
+use Rattle.ch_space.proofs.Findings.{nth_is}
+use Rattle.ch_space.proofs.Membership.{in_flat, flat_in, in_filter, filter_in, any_from, any_in}
 use Rattle.ch_space.proofs.Rowed.{InLevelBox, in_level_box, rows_hold, rows_held, lies_between}
 use Rattle.ch_space.proofs.Shapes.{LevelsFit, length_boxes}
 use Rattle.ch_space.proofs.Turnings.{Between, length_between}
 use Rattle.ch_timed.specs.Members.{In}
 use Rattle.ch_timed.proofs.Orders.{in_map, map_in}
-
-pub in_flat : {X Y : Type 0} (f : X → List Y) (xs : List X) (y : Y) → In y (flat_map f xs) → (x : X) × (In x xs × In y (f x))
-in_flat f [] y i = absurd i
-in_flat f (x ∷ xs) y i = elim (in_append (f x) (flat_map f xs) y i) [
-  | inl j ↦ (x, (inl refl, j))
-  | inr j ↦ let r = in_flat f xs y j in (r.0, (inr r.1.0, r.1.1))
-]
-
-pub flat_in : {X Y : Type 0} (f : X → List Y) (xs : List X) (x : X) (y : Y) → In x xs → In y (f x) → In y (flat_map f xs)
-flat_in f [] x y i j = absurd i
-flat_in f (z ∷ zs) x y (inl k) j = append_left (f z) (flat_map f zs) y (subst (λ w. In y (f w)) (sym k) j)
-flat_in f (z ∷ zs) x y (inr i) j = append_right (f z) (flat_map f zs) y (flat_in f zs x y i j)
-
-kept_in : {X : Type 0} (b : Bool) (t : X → Bool) (x y : X) (rest : List X) → t y ≡ b → In x (cond b (y ∷ rest) rest) → ((y ≡ x) × (t y ≡ true)) ⊎ In x rest
-kept_in true t x y rest e (inl k) = inl (k, e)
-kept_in true t x y rest e (inr i) = inr i
-kept_in false t x y rest e i = inr i
-
-pub in_filter : {X : Type 0} (t : X → Bool) (xs : List X) (x : X) → In x (filter t xs) → In x xs × (t x ≡ true)
-in_filter t [] x i = absurd i
-in_filter t (y ∷ ys) x i = elim (kept_in (t y) t x y (filter t ys) refl i) [
-  | inl k ↦ (inl k.0, subst (λ z. t z ≡ true) k.0 k.1)
-  | inr j ↦ let r = in_filter t ys x j in (inr r.0, r.1)
-]
-
-keeps : {X : Type 0} (b : Bool) (x y : X) (rest : List X) → In x rest → In x (cond b (y ∷ rest) rest)
-keeps true x y rest i = inr i
-keeps false x y rest i = i
-
-pub filter_in : {X : Type 0} (t : X → Bool) (xs : List X) (x : X) → In x xs → t x ≡ true → In x (filter t xs)
-filter_in t [] x i e = absurd i
-filter_in t (y ∷ ys) x (inl k) e = let f : t y ≡ true = ap t k ∙ e in rw f (inl k)
-filter_in t (y ∷ ys) x (inr i) e = keeps (t y) x y (filter t ys) (filter_in t ys x i e)
 
 -- numbers of a range
 
@@ -95,38 +63,26 @@ lies_more r rs x xs l h o =
     let b : int_le x r.high ≡ true = grind (arith, ints) in
     rw (a, b) o
 
-pub in_box_points : (rs : List Range) (xs : List ℤ) → In xs (box_points rs) → IsTrue (lies_in rs xs)
-in_box_points [] [] i = refl
-in_box_points [] (x ∷ xs) (inl k) = cc
-in_box_points [] (x ∷ xs) (inr i) = absurd i
-in_box_points (r ∷ rs) xs i =
+pub box_points_lie : (rs : List Range) (xs : List ℤ) → In xs (box_points rs) → IsTrue (lies_in rs xs)
+box_points_lie [] [] i = refl
+box_points_lie [] (x ∷ xs) (inl k) = cc
+box_points_lie [] (x ∷ xs) (inr i) = absurd i
+box_points_lie (r ∷ rs) xs i =
     let p = in_flat (λ x. map (λ p. x ∷ p) (box_points rs)) (numbers r) xs i in
     let q = in_map (λ ys. p.0 ∷ ys) (box_points rs) xs p.1.1 in
     let b = in_numbers r p.0 p.1.0 in
-    subst (λ z. IsTrue (lies_in (r ∷ rs) z)) q.1.1 (lies_more r rs p.0 q.0 b.0 b.1 (in_box_points rs q.0 q.1.0))
+    subst (λ z. IsTrue (lies_in (r ∷ rs) z)) q.1.1 (lies_more r rs p.0 q.0 b.0 b.1 (box_points_lie rs q.0 q.1.0))
 
-pub box_points_in : (rs : List Range) (xs : List ℤ) → IsTrue (lies_in rs xs) → In xs (box_points rs)
-box_points_in [] [] b = inl refl
-box_points_in [] (x ∷ xs) b = absurd cc
-box_points_in (r ∷ rs) [] b = absurd cc
-box_points_in (r ∷ rs) (x ∷ xs) b =
+pub lying_in_box : (rs : List Range) (xs : List ℤ) → IsTrue (lies_in rs xs) → In xs (box_points rs)
+lying_in_box [] [] b = inl refl
+lying_in_box [] (x ∷ xs) b = absurd cc
+lying_in_box (r ∷ rs) [] b = absurd cc
+lying_in_box (r ∷ rs) (x ∷ xs) b =
     let f = lies_first r rs x xs b in
     flat_in (λ x. map (λ p. x ∷ p) (box_points rs)) (numbers r) x (x ∷ xs) (numbers_in r x f.low f.high)
-    (map_in (λ ys. x ∷ ys) (box_points rs) xs (box_points_in rs xs f.others))
+    (map_in (λ ys. x ∷ ys) (box_points rs) xs (lying_in_box rs xs f.others))
 
 -- the instances of a piece
-
-any_from : {X : Type 0} (t : X → Bool) (xs : List X) → list_any t xs ≡ true → (x : X) × (In x xs × (t x ≡ true))
-any_from t [] e = absurd (both_ways _ refl e)
-any_from t (x ∷ xs) e = elim (or_cases (t x) (list_any t xs) e) [
-  | inl f ↦ (x, (inl refl, f))
-  | inr f ↦ let r = any_from t xs f in (r.0, (inr r.1.0, r.1.1))
-]
-
-any_in : {X : Type 0} (t : X → Bool) (xs : List X) (x : X) → In x xs → t x ≡ true → list_any t xs ≡ true
-any_in t [] x i e = absurd i
-any_in t (y ∷ ys) x (inl k) e = or_left (t y) (list_any t ys) (ap t k ∙ e)
-any_in t (y ∷ ys) x (inr i) e = or_right (t y) (list_any t ys) (any_in t ys x i e)
 
 begins_itself : (xs : List ℤ) → begins xs xs ≡ true
 begins_itself [] = refl
@@ -147,11 +103,11 @@ plain_from : (s : Rows) (xs : List ℤ) → length xs ≡ length s.boxes → beg
 plain_from s xs e h =
     let r = any_from (begins xs) (points s) h in
     let q = in_filter (all_hold s.rows) (box_points s.boxes) r.0 r.1.0 in
-    let l : length r.0 ≡ length s.boxes = lies_length s.boxes r.0 (in_box_points s.boxes r.0 q.0) in
+    let l : length r.0 ≡ length s.boxes = lies_length s.boxes r.0 (box_points_lie s.boxes r.0 q.0) in
     subst (λ z. all_hold s.rows z ≡ true) (sym (begins_same xs r.0 (e ∙ sym l) r.1.1)) q.1
 
 plain_to : (s : Rows) (xs : List ℤ) → IsTrue (lies_in s.boxes xs) → all_hold s.rows xs ≡ true → begins_some s xs ≡ true
-plain_to s xs i h = any_in (begins xs) (points s) xs (filter_in (all_hold s.rows) (box_points s.boxes) xs (box_points_in s.boxes xs i) h) (begins_itself xs)
+plain_to s xs i h = any_in (begins xs) (points s) xs (filter_in (all_hold s.rows) (box_points s.boxes) xs (lying_in_box s.boxes xs i) h) (begins_itself xs)
 
 abbrev system_of : Statement → Rows
 system_of s = system (length s.levels) (rows_of (length s.levels) s.levels) (boxes_from [] s.levels)
@@ -170,13 +126,13 @@ tested_to s xs fit b = plain_to (system_of s) xs (lies_between s.levels xs fit b
 pub in_instances : (s : Statement) (xs : List ℤ) → LevelsFit [] s.levels → In xs (instances (piece_of s)) → Between [] s.levels xs
 in_instances s xs fit i =
     let p = in_filter (begins_some (system_of s)) (box_points (take (length s.levels) (boxes_from [] s.levels))) xs i in
-    let l = lies_length _ xs (in_box_points (take (length s.levels) (boxes_from [] s.levels)) xs p.0) in
+    let l = lies_length _ xs (box_points_lie (take (length s.levels) (boxes_from [] s.levels)) xs p.0) in
     tested_from s xs fit (l ∙ ap length (all_boxes s.levels) ∙ length_boxes [] s.levels) p.1
 
 pub instances_in : (s : Statement) (xs : List ℤ) → LevelsFit [] s.levels → Between [] s.levels xs → In xs (instances (piece_of s))
 instances_in s xs fit b =
     filter_in (begins_some (system_of s)) (box_points (take (length s.levels) (boxes_from [] s.levels))) xs
-    (box_points_in (take (length s.levels) (boxes_from [] s.levels)) xs (subst (λ z. IsTrue (lies_in z xs)) (sym (all_boxes s.levels)) (lies_between s.levels xs fit b)))
+    (lying_in_box (take (length s.levels) (boxes_from [] s.levels)) xs (subst (λ z. IsTrue (lies_in z xs)) (sym (all_boxes s.levels)) (lies_between s.levels xs fit b)))
     (tested_to s xs fit b)
 
 -- sums over turns
@@ -288,7 +244,7 @@ count_points t boxes (l ∷ ls) pre fit inside from to =
       let e = natural_is ((box.high +ℤ pos 1) -ℤ box.low) (omega (arith, ints)) in
       omega (arith, ints, e);
     } in
-    let long : (p : List ℤ) → In p (box_points inner) → length p ≡ length ls = λ p i. lies_length inner p (in_box_points inner p i) ∙ length_boxes (boxes ++ box ∷ []) ls in
+    let long : (p : List ℤ) → In p (box_points inner) → length p ≡ length ls = λ p i. lies_length inner p (box_points_lie inner p i) ∙ length_boxes (boxes ++ box ∷ []) ls in
     length_flat t inner n box.low
     ∙ turns_within box.low n low high (λ x. length (filter (λ p. t (x ∷ p)) (box_points inner))) (λ x. turns_below ls (pre ++ x ∷ [])) covers
     (λ x a b.

@@ -11,26 +11,13 @@ use Rattle.ch_nest.specs.Run.{count, low_of, high_of}
 use Rattle.ch_nest.proofs.Turns.{nth_below}
 use Rattle.ch_space.specs.declared.level.Level.{Level}
 use Rattle.ch_space.specs.Statements.{Statement, Finding, at_numbers, statements_step, statements_of, statements}
+use Rattle.ch_space.proofs.Membership.{in_append, append_left, append_right}
 use Rattle.ch_space.proofs.Turnings.{Between, Pushed, pushed, push, length_between}
 use Rattle.ch_timed.specs.Members.{In}
 use Rattle.ch_timed.specs.declared.element.Element.{Element}
 use Rattle.ch_timed.specs.declared.element.Label.TheVariants.{Stmt}
 use Rattle.ch_timed.specs.Start.{Listing, at_places, turns_listed, start_step, start_item, start}
 use Rattle.ch_timed.specs.Vectors.{woven}
-
-pub in_append : {X : Type 0} (xs ys : List X) (z : X) → In z (xs ++ ys) → In z xs ⊎ In z ys
-in_append [] ys z i = inr i
-in_append (x ∷ xs) ys z (inl k) = inl (inl k)
-in_append (x ∷ xs) ys z (inr i) = elim (in_append xs ys z i) [ | inl j ↦ inl (inr j) | inr j ↦ inr j ]
-
-pub append_left : {X : Type 0} (xs ys : List X) (z : X) → In z xs → In z (xs ++ ys)
-append_left [] ys z i = absurd i
-append_left (x ∷ xs) ys z (inl k) = inl k
-append_left (x ∷ xs) ys z (inr i) = inr (append_left xs ys z i)
-
-pub append_right : {X : Type 0} (xs ys : List X) (z : X) → In z ys → In z (xs ++ ys)
-append_right [] ys z i = i
-append_right (x ∷ xs) ys z i = inr (append_right xs ys z i)
 
 -- the element of a statement at these values of its loops
 abbrev pub element_of : Statement → List ℤ → Element

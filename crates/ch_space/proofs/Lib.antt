@@ -8,3 +8,4 @@ pub mod Membership
 pub mod PieceElements
 pub mod PieceNumbers
 pub mod Readings
+pub mod Bodies
