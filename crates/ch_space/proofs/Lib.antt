@@ -9,3 +9,4 @@ pub mod PieceElements
 pub mod PieceNumbers
 pub mod Readings
 pub mod Bodies
+pub mod Assembled

@@ -23,12 +23,12 @@ use Rattle.ch_space.specs.Built.{zeros, padded, low_row, high_row, rows_of, boxe
 use Rattle.ch_space.proofs.Turnings.{Between}
 use Rattle.ch_space.proofs.Shapes.{LevelsFit}
 
-dot_zeros : (n : ℕ) (xs : List ℤ) → dot (zeros n) xs ≡ pos 0
+pub dot_zeros : (n : ℕ) (xs : List ℤ) → dot (zeros n) xs ≡ pos 0
 dot_zeros zero xs = refl
 dot_zeros (suc n) [] = refl
 dot_zeros (suc n) (x ∷ xs) = omega (arith, ints, dot_zeros n xs, zero-*ℤ x)
 
-dot_front : (cs ds pre xs : List ℤ) → length cs ≡ length pre → dot (cs ++ ds) (pre ++ xs) ≡ dot cs pre +ℤ dot ds xs
+pub dot_front : (cs ds pre xs : List ℤ) → length cs ≡ length pre → dot (cs ++ ds) (pre ++ xs) ≡ dot cs pre +ℤ dot ds xs
 dot_front [] ds [] xs e = omega (arith, ints)
 dot_front [] ds (p ∷ pre) xs e = absurd (omega arith)
 dot_front (c ∷ cs) ds [] xs e = absurd (omega arith)
@@ -45,7 +45,7 @@ dot_neg [] xs = refl
 dot_neg (c ∷ cs) [] = refl
 dot_neg (c ∷ cs) (x ∷ xs) = omega (arith, ints, dot_neg cs xs, neg_times c x)
 
-one_times : (x : ℤ) → pos 1 *ℤ x ≡ x
+pub one_times : (x : ℤ) → pos 1 *ℤ x ≡ x
 one_times x = let e : (pos 1 +ℤ pos 0) *ℤ x ≡ pos 1 *ℤ x +ℤ pos 0 *ℤ x = plus_times (pos 1) (pos 0) x in omega (arith, ints)
 
 minus_times : (x : ℤ) → negsuc 0 *ℤ x ≡ neg_ℤ x

@@ -63,7 +63,7 @@ Begins places s = (rest : List ℕ) × (s.places ≡ places ++ rest)
 abbrev pub key : Statement → List ℤ
 key s = map pos s.places
 
-abbrev IsEarlier : Statement → Statement → Type 0
+abbrev pub IsEarlier : Statement → Statement → Type 0
 IsEarlier s t = slice_cmp int_cmp (key s) (key t) ≡ Less
 
 cmp_front : (v a b : List ℤ) → slice_cmp int_cmp (v ++ a) (v ++ b) ≡ slice_cmp int_cmp a b
