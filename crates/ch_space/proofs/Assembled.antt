@@ -26,13 +26,14 @@ use Rattle.ch_space.specs.Built.{zeros, unit, units, boxes_from, piece_of}
 use Rattle.ch_space.specs.Keeps.{most_instances, most_arrays, IsWhole, places_of, AllLater, AreApart, accesses, IsAccess, IsBody, IsMoveBelow, IsSpace}
 use Rattle.ch_space.specs.Pieces.{element_at, elements, instances, listed}
 use Rattle.ch_space.specs.Statements.{Statement, statements, executed, instances_of}
+use Rattle.ch_space.specs.Fitting.{LevelsFit}
 use Rattle.ch_space.proofs.Bodies.{all_from_each, each_in, few_arrays, Fits, body_accesses, is_body, same_dimensions}
 use Rattle.ch_space.proofs.Counted.{in_instances, instances_in, instances_counted}
 use Rattle.ch_space.proofs.Findings.{Has, element_of, start_found, found_start}
 use Rattle.ch_space.proofs.Membership.{in_flat, flat_in, in_filter, filter_in}
 use Rattle.ch_space.proofs.PieceElements.{each_from_in}
 use Rattle.ch_space.proofs.Rowed.{dot_zeros, dot_front, one_times, lies_between}
-use Rattle.ch_space.proofs.Shapes.{LevelsFit, length_boxes, IsFit, Shape, shaped, key, IsEarlier}
+use Rattle.ch_space.proofs.Shapes.{length_boxes, IsFit, Shape, shaped, key, IsEarlier}
 use Rattle.ch_space.proofs.Sums.{instances_few, sum_first}
 use Rattle.ch_space.proofs.Turnings.{Between, length_between}
 use Rattle.ch_timed.specs.Members.{Each, In}

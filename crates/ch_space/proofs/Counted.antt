@@ -18,10 +18,11 @@ use Rattle.ch_space.specs.declared.level.Level.{Level}
 use Rattle.ch_space.specs.Built.{rows_of, boxes_from, piece_of}
 use Rattle.ch_space.specs.Pieces.{instances}
 use Rattle.ch_space.specs.Statements.{Statement, sum_turns, turns_below, instances_of}
+use Rattle.ch_space.specs.Fitting.{LevelsFit}
 use Rattle.ch_space.proofs.Findings.{nth_is}
 use Rattle.ch_space.proofs.Membership.{in_flat, flat_in, in_filter, filter_in, any_from, any_in}
 use Rattle.ch_space.proofs.Rowed.{InLevelBox, in_level_box, rows_hold, rows_held, lies_between}
-use Rattle.ch_space.proofs.Shapes.{LevelsFit, length_boxes}
+use Rattle.ch_space.proofs.Shapes.{length_boxes}
 use Rattle.ch_space.proofs.Turnings.{Between, length_between}
 use Rattle.ch_timed.specs.Members.{In}
 use Rattle.ch_timed.proofs.Orders.{in_map, map_in}

@@ -20,8 +20,8 @@ use Rattle.ch_nest.proofs.Fits.{head_lows, head_highs}
 use Rattle.ch_nest.proofs.Turns.{form_coefs}
 use Rattle.ch_space.specs.declared.level.Level.{Level}
 use Rattle.ch_space.specs.Built.{zeros, padded, low_row, high_row, rows_of, boxes_from}
+use Rattle.ch_space.specs.Fitting.{LevelsFit}
 use Rattle.ch_space.proofs.Turnings.{Between}
-use Rattle.ch_space.proofs.Shapes.{LevelsFit}
 
 pub dot_zeros : (n : ℕ) (xs : List ℤ) → dot (zeros n) xs ≡ pos 0
 dot_zeros zero xs = refl

@@ -18,16 +18,11 @@ use Rattle.ch_nest.specs.declared.nest.Item.TheFolds.{fold-roll-Item, ind-Item}
 use Rattle.ch_nest.specs.Shape.{Test, all_pass, body_fits, box_of, head_fits, is_small, item_fits, item_fits_step, items_fit, IsSmall}
 use Rattle.ch_space.specs.declared.level.Level.{Level}
 use Rattle.ch_space.specs.Built.{boxes_from}
+use Rattle.ch_space.specs.Fitting.{LevelsFit}
 use Rattle.ch_space.specs.Statements.{Statement, Finding, at_numbers, statements_step, statements_of, statements}
 use Rattle.ch_timed.specs.Members.{Each, In}
 use Rattle.ch_timed.proofs.Blocks.{int_less}
 use Rattle.ch_timed.proofs.Orders.{IsAscending, each_more}
-
--- each loop has forms of the loops around it, and a small box
-abbrev pub LevelsFit : List Range → List Level → Type 0
-LevelsFit boxes [] = Unit {0}
-LevelsFit boxes (l ∷ ls) =
-    IsTrue (head_fits (length boxes) l.lows l.highs) × IsSmall (box_of boxes l.lows l.highs) × LevelsFit (boxes ++ box_of boxes l.lows l.highs ∷ []) ls
 
 pub boxes_last : (boxes : List Range) (ls : List Level) (l : Level)
     → boxes_from boxes (ls ++ l ∷ []) ≡ boxes_from boxes ls ++ box_of (boxes ++ boxes_from boxes ls) l.lows l.highs ∷ []

@@ -4,3 +4,4 @@ pub mod Keeps
 pub mod Statements
 pub mod Built
 pub mod Members
+pub mod Fitting

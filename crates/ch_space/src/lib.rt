@@ -4,9 +4,13 @@
 pub mod copies;
 mod error;
 mod level;
+mod nest_pieces;
+mod nest_space;
 mod piece;
 mod reading;
+mod rows;
 mod space;
+mod turns;
 
 pub use error::SpaceError;
 pub use piece::Piece;
