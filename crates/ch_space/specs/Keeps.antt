@@ -24,11 +24,12 @@ most_instances = 2097152
 abbrev pub most_arrays : ℕ
 most_arrays = 262144
 
--- A piece has one place more than levels, its system the levels and the hidden values, and its origin gives iterators from the
--- levels.
+-- A piece has one place more than levels, its system the levels and the hidden values with a range for each, and its origin gives
+-- iterators from the levels.
 pub record IsWhole (p : Piece) : Type 0 where
   pub places : length p.places ≡ p.levels + 1
   pub variables : p.system.vars ≡ p.levels + p.hidden
+  pub boxes : length p.system.boxes ≡ p.levels + p.hidden
   pub origin : All (λ f. length f.coefs ≡ p.levels) p.origin
 
 abbrev pub places_of : Piece → List ℤ

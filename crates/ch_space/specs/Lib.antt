@@ -1,3 +1,7 @@
 pub mod Listed
 pub mod Pieces
 pub mod Keeps
+pub mod Statements
+pub mod Built
+pub mod Members
+pub mod Fitting

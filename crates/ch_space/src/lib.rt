@@ -1,10 +1,18 @@
 //! Spaces: timed lists as pieces, each the integer points of a system of affine rows.
 #![tactic(auto)]
 
+pub mod copies;
 mod error;
+mod level;
+mod nest_pieces;
+mod nest_space;
 mod piece;
+mod reading;
+mod rows;
 mod space;
+mod turns;
 
 pub use error::SpaceError;
 pub use piece::Piece;
+pub use reading::{count, group, label, piece_count, pieces, places};
 pub use space::Space;

@@ -1,0 +1,112 @@
+//! Deep copies: values of their own that contracts see as the same.
+
+ghost use Rattle.std.specs.Prelude.{◌≡◌, IfOk};
+
+use crate::piece::Piece;
+use ch_affine::{Aff, Boxed, List, System};
+use ch_nest::{Access, Body, Expr, Sub};
+use std::alloc::{AllocError, Global};
+
+/// A form of its own with the same numbers.
+pub fn copied_form(alloc: Global, form: &Aff) -> Result<Aff, AllocError>
+    ensures { IfOk result (λ copy. copy ≡ form.now) }
+{
+    form.copied(alloc)
+}
+
+pub fn copied_forms(alloc: Global, forms: &[Aff]) -> Result<List<Aff>, AllocError>
+    ensures { IfOk result (λ copy. copy ≡ forms.now) }
+{
+    let mut copy = List::with_capacity(alloc, forms.len())?;
+    for form in forms {
+        copy.push(form.copied(alloc)?)?;
+    }
+    Ok(copy)
+}
+
+pub fn copied_system(alloc: Global, system: &System) -> Result<System, AllocError>
+    ensures { IfOk result (λ copy. copy ≡ system.now) }
+{
+    let rows = copied_forms(alloc, system.rows.as_slice())?;
+    let boxes = List::from_slice(alloc, system.boxes.as_slice())?;
+    Ok(System {
+        vars: system.vars,
+        rows,
+        boxes,
+    })
+}
+
+pub fn copied_subscript(alloc: Global, subscript: &Sub) -> Result<Sub, AllocError>
+    ensures { IfOk result (λ copy. copy ≡ subscript.now) }
+{
+    Ok(Sub {
+        form: subscript.form.copied(alloc)?,
+        modulus: subscript.modulus,
+    })
+}
+
+pub fn copied_access(alloc: Global, access: &Access) -> Result<Access, AllocError>
+    ensures { IfOk result (λ copy. copy ≡ access.now) }
+{
+    let mut subs = List::with_capacity(alloc, access.subs.len())?;
+    for subscript in access.subs.as_slice() {
+        subs.push(copied_subscript(alloc, subscript)?)?;
+    }
+    Ok(Access {
+        array: access.array,
+        subs,
+    })
+}
+
+/// A right side of its own. It goes down the tree, whose depth a nest's limits keep small.
+pub fn copied_expr(alloc: Global, expr: &Expr) -> Result<Expr, AllocError>
+    ensures { IfOk result (λ copy. copy ≡ expr.now) }
+{
+    match expr {
+        Expr::Number(number) => Ok(Expr::Number(*number)),
+        Expr::Iter(level) => Ok(Expr::Iter(*level)),
+        Expr::Read(access) => Ok(Expr::Read(copied_access(alloc, access)?)),
+        Expr::Neg(inner) => {
+            let inner = copied_expr(alloc, inner.get())?;
+            Ok(Expr::Neg(Boxed::new(alloc, inner)?))
+        }
+        Expr::Add(left, right) => {
+            let left = copied_expr(alloc, left.get())?;
+            let right = copied_expr(alloc, right.get())?;
+            Ok(Expr::Add(Boxed::new(alloc, left)?, Boxed::new(alloc, right)?))
+        }
+        Expr::Sub(left, right) => {
+            let left = copied_expr(alloc, left.get())?;
+            let right = copied_expr(alloc, right.get())?;
+            Ok(Expr::Sub(Boxed::new(alloc, left)?, Boxed::new(alloc, right)?))
+        }
+        Expr::Mul(left, right) => {
+            let left = copied_expr(alloc, left.get())?;
+            let right = copied_expr(alloc, right.get())?;
+            Ok(Expr::Mul(Boxed::new(alloc, left)?, Boxed::new(alloc, right)?))
+        }
+    }
+}
+
+pub fn copied_body(alloc: Global, body: &Body) -> Result<Body, AllocError>
+    ensures { IfOk result (λ copy. copy ≡ body.now) }
+{
+    Ok(Body {
+        write: copied_access(alloc, &body.write)?,
+        right: copied_expr(alloc, &body.right)?,
+    })
+}
+
+pub fn copied_piece(alloc: Global, piece: &Piece) -> Result<Piece, AllocError>
+    ensures { IfOk result (λ copy. copy ≡ piece.now) }
+{
+    Ok(Piece {
+        label: piece.label,
+        body: copied_body(alloc, &piece.body)?,
+        levels: piece.levels,
+        hidden: piece.hidden,
+        system: copied_system(alloc, &piece.system)?,
+        origin: copied_forms(alloc, piece.origin.as_slice())?,
+        places: List::from_slice(alloc, piece.places.as_slice())?,
+    })
+}
