@@ -2,3 +2,5 @@ pub mod Membership
 pub mod PieceElements
 pub mod PieceNumbers
 pub mod Readings
+pub mod Turning
+pub mod EndsOf

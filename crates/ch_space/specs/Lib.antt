@@ -2,3 +2,4 @@ pub mod Listed
 pub mod Pieces
 pub mod Keeps
 pub mod Members
+pub mod Turned

@@ -3,11 +3,13 @@
 
 pub mod copies;
 mod error;
+mod extremes;
 mod piece;
 mod reading;
 mod space;
 
 pub use error::SpaceError;
+pub use extremes::ends;
 pub use piece::Piece;
 pub use reading::{count, group, label, piece_count, pieces, places};
 pub use space::Space;
