@@ -10,3 +10,6 @@ pub mod PieceNumbers
 pub mod Readings
 pub mod Bodies
 pub mod Assembled
+
+pub mod Turning
+pub mod EndsOf

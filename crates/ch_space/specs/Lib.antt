@@ -5,3 +5,5 @@ pub mod Statements
 pub mod Built
 pub mod Members
 pub mod Fitting
+
+pub mod Turned

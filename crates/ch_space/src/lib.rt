@@ -6,6 +6,8 @@ mod error;
 mod level;
 mod nest_pieces;
 mod nest_space;
+
+mod extremes;
 mod piece;
 mod reading;
 mod rows;
@@ -13,6 +15,7 @@ mod space;
 mod turns;
 
 pub use error::SpaceError;
+pub use extremes::ends;
 pub use piece::Piece;
 pub use reading::{count, group, label, piece_count, pieces, places};
 pub use space::Space;
