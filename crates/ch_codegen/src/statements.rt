@@ -1,0 +1,75 @@
+//! Statements, with a guard where they need one.
+
+ghost use Rattle.std.specs.Prelude.{◌≡◌, ◌≤◌, [], ◌∷◌, length, take, IfOk, OnTrue, IsTrue};
+ghost use Rattle.ch_code.specs.Trace.{trace};
+ghost use Rattle.ch_space.specs.Keeps.{IsWhole};
+ghost use Rattle.ch_codegen.specs.Parts.{Lists};
+ghost use Rattle.ch_codegen.specs.Trees.{leaf, guard};
+
+use crate::systems::known_system;
+use ch_affine::{Boxed, List, Range};
+use ch_code::Code;
+use ch_space::Piece;
+use ch_space::copies::{copied_body, copied_forms, copied_system};
+use std::alloc::{AllocError, Global};
+
+/// The statement of a piece, for values of all its levels.
+fn statement(alloc: Global, piece: &Piece) -> Result<Code, AllocError>
+    ensures { IfOk result (λ code. code ≡ leaf piece.now) }
+{
+    let body = copied_body(alloc, &piece.body)?;
+    let origin = copied_forms(alloc, piece.origin.as_slice())?;
+    let places = List::from_slice(alloc, piece.places.as_slice())?;
+    Ok(Code::Leaf {
+        label: piece.label,
+        body,
+        origin,
+        places,
+    })
+}
+
+/// The statement of a piece under the guard of its system.
+fn guarded_statement(alloc: Global, piece: &Piece) -> Result<Code, AllocError>
+    ensures { IfOk result (λ code. code ≡ guard piece.now) }
+{
+    let system = copied_system(alloc, &piece.system)?;
+    let inner = statement(alloc, piece)?;
+    let inner = Boxed::new(alloc, inner)?;
+    Ok(Code::Guard { system, inner })
+}
+
+fn same_ranges(ours: &[Range], theirs: &[Range]) -> bool
+    requires { length theirs.now ≡ length ours.now }
+    ensures { OnTrue result (ours.now ≡ theirs.now) }
+{
+    for k in 0..ours.len() {
+        if ours[k].low != theirs[k].low || ours[k].high != theirs[k].high {
+            return false;
+        }
+    }
+    true
+}
+
+/// Whether the piece has an instance at all values of the loops around, which have these ranges.
+fn is_everywhere(piece: &Piece, ranges: &[Range]) -> bool
+    requires { length ranges.now ≤ length piece.now.system.boxes }
+    ensures rows { OnTrue result (piece.now.system.rows ≡ []) }
+    ensures boxes { OnTrue result (take (length ranges.now) piece.now.system.boxes ≡ ranges.now) }
+{
+    let boxes = piece.system.boxes.as_slice();
+    piece.system.rows.is_empty() && same_ranges(&boxes[..ranges.len()], ranges)
+}
+
+/// The statement of a piece that ends inside these loops.
+pub fn end_code(alloc: Global, piece: &Piece, ranges: &[Range]) -> Result<Code, AllocError>
+    requires whole { IsWhole piece.now }
+    requires ends { piece.now.levels ≡ length ranges.now }
+    ensures { IfOk result (λ code. Lists ranges.now (piece.now ∷ []) (trace code)) }
+{
+    known_system(&piece.system);
+    if is_everywhere(piece, ranges) {
+        statement(alloc, piece)
+    } else {
+        guarded_statement(alloc, piece)
+    }
+}
