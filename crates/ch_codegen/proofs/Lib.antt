@@ -1,6 +1,6 @@
 pub mod Inside
 pub mod Vectors
 pub mod Executed
-pub mod Runs
+pub mod Neighbours
 pub mod Listed
-pub mod Trees
+pub mod Traces

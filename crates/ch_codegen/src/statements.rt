@@ -1,10 +1,11 @@
 //! Statements, with a guard where they need one.
 
-ghost use Rattle.std.specs.Prelude.{◌≡◌, ◌≤◌, [], ◌∷◌, length, take, IfOk, OnTrue, IsTrue};
+ghost use Rattle.std.specs.Prelude.{◌≡◌, ◌≤◌, [], ◌∷◌, length, take, IfOk};
+ghost use Rattle.std.specs.Bool.{OnTrue};
 ghost use Rattle.ch_code.specs.Trace.{trace};
 ghost use Rattle.ch_space.specs.Keeps.{IsWhole};
 ghost use Rattle.ch_codegen.specs.Parts.{Lists};
-ghost use Rattle.ch_codegen.specs.Trees.{leaf, guard};
+ghost use Rattle.ch_codegen.specs.Made.{leaf, guard};
 
 use crate::systems::known_system;
 use ch_affine::{Boxed, List, Range};

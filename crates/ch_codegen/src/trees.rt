@@ -3,7 +3,7 @@
 ghost use Rattle.std.specs.Prelude.{◌≡◌, ◌≤◌, ◌<◌, ◌^◌, [], ◌∷◌, IfOk};
 ghost use Rattle.ch_affine.specs.Affine.{IsAtMost};
 ghost use Rattle.ch_affine.specs.Rows.{IsBox};
-ghost use Rattle.ch_codegen.specs.Trees.{bound, loop};
+ghost use Rattle.ch_codegen.specs.Made.{bound, loop};
 
 use ch_affine::{Aff, Boxed, List, Range};
 use ch_code::{Bound, Code};

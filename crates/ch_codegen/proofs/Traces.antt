@@ -19,7 +19,7 @@ use Rattle.ch_space.specs.declared.piece.Piece.{Piece}
 use Rattle.ch_space.specs.Pieces.{element_at}
 use Rattle.ch_timed.specs.Start.{turns_listed}
 use Rattle.ch_codegen.specs.Parts.{looped}
-use Rattle.ch_codegen.specs.Trees.{bound, leaf, guard, loop}
+use Rattle.ch_codegen.specs.Made.{bound, leaf, guard, loop}
 
 pub trace_seq : (parts : List Code) → trace (Seq parts) ≡ one_by_one (map trace parts)
 trace_seq parts = ap trace (sym (rolls-Seq parts)) ∙ fold-roll-Code Traced trace_step _
