@@ -25,7 +25,7 @@ pub record IsFit (p : Piece) : Type 0 where
 abbrev pub AreFit : List Piece → Type 0
 AreFit ps = (p : Piece) → In p ps → IsFit p
 
-each_in : {X : Type 0} (P : X → Type 0) (xs : List X) → ((x : X) → In x xs → P x) → Each P xs
+pub each_in : {X : Type 0} (P : X → Type 0) (xs : List X) → ((x : X) → In x xs → P x) → Each P xs
 each_in P [] h = tt
 each_in P (x ∷ xs) h = (h x (inl refl), each_in P xs (λ y i. h y (inr i)))
 

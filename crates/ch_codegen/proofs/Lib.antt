@@ -4,3 +4,4 @@ pub mod Executed
 pub mod Neighbours
 pub mod Listed
 pub mod Traces
+pub mod Steps

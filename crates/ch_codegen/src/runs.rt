@@ -60,8 +60,16 @@ fn joined(ours: Range, theirs: Range) -> Range
     ensures theirs { Widens theirs result }
 {
     Range {
-        low: if theirs.low < ours.low { theirs.low } else { ours.low },
-        high: if ours.high < theirs.high { theirs.high } else { ours.high },
+        low: if theirs.low < ours.low {
+            theirs.low
+        } else {
+            ours.low
+        },
+        high: if ours.high < theirs.high {
+            theirs.high
+        } else {
+            ours.high
+        },
     }
 }
 
