@@ -13,8 +13,9 @@ use Rattle.ch_timed.specs.declared.element.Element.{Element}
 use Rattle.ch_timed.specs.Members.{Each, In}
 use Rattle.ch_timed.specs.Start.{turns_listed}
 use Rattle.ch_timed.proofs.Blocks.{Ascends, IsEarlier, ascends_both}
+use Rattle.ch_codegen.specs.LeastValues.{HoldEverywhere}
 use Rattle.ch_codegen.specs.Parts.{InRanges, IsAmong, Lists, looped, Together, place, range_at, Precedes, AllPrecede, Covers}
-use Rattle.ch_codegen.proofs.Inside.{in_append, append_left, append_right, length_inside, instance_inside, inside_instance, begun_inside, bare_begun, HasNumbers}
+use Rattle.ch_codegen.proofs.Inside.{in_append, append_left, append_right, length_inside, instance_inside, inside_instance, begun_inside, everywhere_begun, HasNumbers}
 use Rattle.ch_codegen.proofs.Vectors.{place_less, end_less, turn_less}
 
 -- what a piece's type and its space's keep, as far as code needs it
@@ -231,10 +232,10 @@ lists_guarded R p f l = record {
 }
 
 -- a statement whose piece is all of the ranges around
-pub lists_bare : (R : List Range) (p : Piece) → IsFit p → p.system.rows ≡ [] → take p.levels p.system.boxes ≡ R → HasNumbers p.system.boxes
+pub lists_bare : (R : List Range) (p : Piece) → IsFit p → HoldEverywhere p.system.rows p.system.boxes → take p.levels p.system.boxes ≡ R → HasNumbers p.system.boxes
     → Lists R (p ∷ []) (λ xs. element_at p xs ∷ [])
 lists_bare R p f rows boxes some =
     let l : p.levels ≡ length R = sym (length-take-le p.levels p.system.boxes f.boxes) ∙ ap length boxes in
     lists_same R (p ∷ []) _ _
-    (λ xs h. ap (λ b. guarded b (element_at p xs ∷ [])) (bare_begun p.system p.levels xs rows some (subst (λ z. InRanges z xs) (sym boxes) h)))
+    (λ xs h. ap (λ b. guarded b (element_at p xs ∷ [])) (everywhere_begun p.system p.levels xs rows some (subst (λ z. InRanges z xs) (sym boxes) h)))
     (lists_guarded R p f l)

@@ -16,6 +16,7 @@ use Rattle.ch_space.specs.declared.piece.Piece.{Piece}
 use Rattle.ch_space.specs.Pieces.{instances}
 use Rattle.ch_timed.specs.Members.{In}
 use Rattle.ch_timed.proofs.Orders.{in_map, map_in}
+use Rattle.ch_codegen.specs.LeastValues.{HoldEverywhere}
 use Rattle.ch_codegen.specs.Parts.{InRanges}
 
 pub in_append : {X : Type 0} (xs ys : List X) (z : X) → In z (xs ++ ys) → In z xs ⊎ In z ys
@@ -175,9 +176,8 @@ begun_inside s n xs l e =
     let b = begins_split xs r.0 r.1.1 in
     front_inside n s.boxes xs b.0 l (subst (InRanges s.boxes) (sym b.1) (in_box_points s.boxes r.0 i.0))
 
--- without rows each values of the first ranges begin a point
-pub bare_begun : (s : Rows) (n : ℕ) (xs : List ℤ) → s.rows ≡ [] → HasNumbers s.boxes → InRanges (take n s.boxes) xs → begins_some s xs ≡ true
-bare_begun s n xs e b h =
+-- where the rows hold everywhere, all values of the first ranges begin a point
+pub everywhere_begun : (s : Rows) (n : ℕ) (xs : List ℤ) → HoldEverywhere s.rows s.boxes → HasNumbers s.boxes → InRanges (take n s.boxes) xs → begins_some s xs ≡ true
+everywhere_begun s n xs e b h =
     let r = goes_on n s.boxes xs b h in
-    let t : all_hold s.rows (xs ++ r.0) ≡ true = ap (λ rows. all_hold rows (xs ++ r.0)) e in
-    in_any (begins xs) (points s) (xs ++ r.0) (filter_in (all_hold s.rows) (box_points s.boxes) (xs ++ r.0) (box_points_in s.boxes (xs ++ r.0) r.1) t) (begins_front xs r.0)
+    in_any (begins xs) (points s) (xs ++ r.0) (filter_in (all_hold s.rows) (box_points s.boxes) (xs ++ r.0) (box_points_in s.boxes (xs ++ r.0) r.1) (e (xs ++ r.0) r.1)) (begins_front xs r.0)

@@ -5,3 +5,4 @@ pub mod Neighbours
 pub mod Listed
 pub mod Traces
 pub mod Steps
+pub mod Rows

@@ -12,6 +12,7 @@ use Rattle.ch_space.specs.Keeps.{IsWhole, AreApart}
 use Rattle.ch_timed.specs.Members.{Each, In}
 use Rattle.ch_timed.proofs.Orders.{at_each, each_more}
 use Rattle.ch_codegen.specs.Made.{leaf, guard, loop}
+use Rattle.ch_codegen.specs.LeastValues.{HoldEverywhere}
 use Rattle.ch_codegen.specs.Parts.{Lists, Together, AreSystems, place, range_at, IsRun, StopsAt, Precedes, AllPrecede, Widens, Covers}
 use Rattle.ch_codegen.proofs.Inside.{in_append, append_left, append_right, has_numbers}
 use Rattle.ch_codegen.proofs.Executed.{IsFit, AreFit, each_in, lists_same, lists_both, lists_loop, lists_guarded, lists_bare}
@@ -88,7 +89,7 @@ covers_more ps k d r s p l e h w c =
 fit_one : (p : Piece) → IsWhole p → IsSystem p.system → IsFit p
 fit_one p w s = record { places = w.places ∙ add-one p.levels; boxes = omega (arith, s.boxes, w.variables) }
 
-pub statement_listed : (R : List Range) (p : Piece) (code : Code) → IsWhole p → IsSystem p.system → p.levels ≡ length R → p.system.rows ≡ [] → take (length R) p.system.boxes ≡ R
+pub statement_listed : (R : List Range) (p : Piece) (code : Code) → IsWhole p → IsSystem p.system → p.levels ≡ length R → HoldEverywhere p.system.rows p.system.boxes → take (length R) p.system.boxes ≡ R
     → code ≡ leaf p → Lists R (p ∷ []) (trace code)
 statement_listed R p code w s l rows boxes is =
     lists_same R (p ∷ []) _ _ (λ xs h. sym (trace_leaf p xs) ∙ ap (λ c. trace c xs) (sym is))

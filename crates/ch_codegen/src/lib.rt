@@ -2,6 +2,7 @@
 //! the space's list.
 #![tactic(auto)]
 
+mod everywhere;
 mod generator;
 mod runs;
 mod statements;

@@ -7,6 +7,7 @@ ghost use Rattle.ch_space.specs.Keeps.{IsWhole};
 ghost use Rattle.ch_codegen.specs.Parts.{Lists};
 ghost use Rattle.ch_codegen.specs.Made.{leaf, guard};
 
+use crate::everywhere::is_everywhere;
 use crate::systems::known_system;
 use ch_affine::{Boxed, List, Range};
 use ch_code::Code;
@@ -37,28 +38,6 @@ fn guarded_statement(alloc: Global, piece: &Piece) -> Result<Code, AllocError>
     let inner = statement(alloc, piece)?;
     let inner = Boxed::new(alloc, inner)?;
     Ok(Code::Guard { system, inner })
-}
-
-fn same_ranges(ours: &[Range], theirs: &[Range]) -> bool
-    requires { length theirs.now ≡ length ours.now }
-    ensures { OnTrue result (ours.now ≡ theirs.now) }
-{
-    for k in 0..ours.len() {
-        if ours[k].low != theirs[k].low || ours[k].high != theirs[k].high {
-            return false;
-        }
-    }
-    true
-}
-
-/// Whether the piece has an instance at all values of the loops around, which have these ranges.
-fn is_everywhere(piece: &Piece, ranges: &[Range]) -> bool
-    requires { length ranges.now ≤ length piece.now.system.boxes }
-    ensures rows { OnTrue result (piece.now.system.rows ≡ []) }
-    ensures boxes { OnTrue result (take (length ranges.now) piece.now.system.boxes ≡ ranges.now) }
-{
-    let boxes = piece.system.boxes.as_slice();
-    piece.system.rows.is_empty() && same_ranges(&boxes[..ranges.len()], ranges)
 }
 
 /// The statement of a piece that ends inside these loops.
