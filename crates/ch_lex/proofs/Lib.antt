@@ -7,3 +7,4 @@ pub mod Gaps
 pub mod Cuts
 pub mod ByLength
 pub mod KeywordLaws
+pub mod Plain

@@ -1,6 +1,6 @@
-ghost use Rattle.std.specs.Prelude.{◌≡◌, ◌≤◌, ◌<◌, ◌+◌, ◌^◌, length, not, count_by, IfOk};
-ghost use Rattle.std.specs.List.{suffix_len};
-ghost use Rattle.ch_lex.specs.Bytes.{is_line_feed};
+ghost use Rattle.std.specs.Prelude.{◌≡◌, ◌≤◌, ◌<◌, ◌+◌, ◌^◌, length, not, count_by, IfOk, IsTrue};
+ghost use Rattle.std.specs.List.{list_all, suffix_len};
+ghost use Rattle.ch_lex.specs.Bytes.{is_ascii, is_line_feed};
 ghost use Rattle.ch_lex.specs.Cut.{IsCut};
 ghost use Rattle.ch_lex.specs.Spots.{spot_of};
 ghost use Rattle.ch_lex.specs.Tokens.{tokens_of, Gives};
@@ -42,11 +42,11 @@ fn read_tokens(alloc: Global, bytes: &[u8]) -> Result<List<Token>, LexError>
 }
 
 /// The tokens of a text, or the first place where none begins. A number is refused at its first digit.
-#[tactic(auto, using(crate::proofs::Cuts::cut_result))]
 pub fn tokens(alloc: Global, bytes: &[u8]) -> Result<List<Token>, LexError>
     requires { length bytes.now < 2 ^ 32 }
     ensures exact { Gives result (tokens_of bytes.now) }
     ensures cut { IfOk result (λ found. IsCut bytes.now 0 found) }
+    ensures ascii { IfOk result (λ found. IsTrue (list_all is_ascii bytes.now)) }
 {
     read_tokens(alloc, bytes)
 }

@@ -34,7 +34,7 @@ less_by x y Greater h m = absurd (omega (arith, ints))
 pub int_less : (x y : ℤ) → x <ℤ y → int_cmp x y ≡ Less
 int_less x y h = less_by x y (int_cmp x y) h (int_ranked x y (int_cmp x y) refl)
 
-cmp_front : (v a b : List ℤ) → slice_cmp int_cmp (v ++ a) (v ++ b) ≡ slice_cmp int_cmp a b
+pub cmp_front : (v a b : List ℤ) → slice_cmp int_cmp (v ++ a) (v ++ b) ≡ slice_cmp int_cmp a b
 cmp_front [] a b = refl
 cmp_front (x ∷ v) a b = ap (λ o. ordering_then o (slice_cmp int_cmp (v ++ a) (v ++ b))) (tied_itself int_cmp_total x) ∙ cmp_front v a b
 
@@ -43,7 +43,7 @@ earlier v x y e f b c h =
     ap₂ (slice_cmp int_cmp) (b.1 ∙ append_assoc v (x ∷ []) b.0) (c.1 ∙ append_assoc v (y ∷ []) c.0)
     ∙ cmp_front v (x ∷ b.0) (y ∷ c.0) ∙ ap (λ o. ordering_then o (slice_cmp int_cmp b.0 c.0)) (int_less x y h)
 
-each_both : (P : Element → Type 0) (xs ys : List Element) → Each P xs → Each P ys → Each P (xs ++ ys)
+pub each_both : (P : Element → Type 0) (xs ys : List Element) → Each P xs → Each P ys → Each P (xs ++ ys)
 each_both P [] ys h g = g
 each_both P (x ∷ xs) ys h g = (h.0, each_both P xs ys h.1 g)
 
@@ -58,7 +58,7 @@ Block v x es = Ascends es × Each (Begins (v ++ x ∷ [])) es
 abbrev UpTo : List ℤ → ℤ → ℕ → Element → Type 0
 UpTo v low n e = (j : ℕ) × ((j < n) × Begins (v ++ (low +ℤ pos j) ∷ []) e)
 
-each_each : (P Q : Element → Type 0) (R : Element → Element → Type 0) (xs ys : List Element) → ((e f : Element) → P e → Q f → R e f) → Each P xs → Each Q ys → Each (λ e. Each (R e) ys) xs
+pub each_each : (P Q : Element → Type 0) (R : Element → Element → Type 0) (xs ys : List Element) → ((e f : Element) → P e → Q f → R e f) → Each P xs → Each Q ys → Each (λ e. Each (R e) ys) xs
 each_each P Q R [] ys h p q = tt
 each_each P Q R (x ∷ xs) ys h p q = (each_more Q (R x) ys (λ f g. h x f p.0 g) q, each_each P Q R xs ys h p.1 q)
 
@@ -74,10 +74,10 @@ turns_ascend v (suc n) low g h =
           (each_more (Begins (v ++ (low +ℤ pos n) ∷ [])) (UpTo v low (suc n)) (g (low +ℤ pos n)) (λ e q. (n, (omega arith, q))) b.1),
     )
 
-abbrev From : List ℤ → ℕ → Element → Type 0
+abbrev pub From : List ℤ → ℕ → Element → Type 0
 From v k e = (j : ℕ) × ((k ≤ j) × Begins (v ++ pos j ∷ []) e)
 
-shorter : (v : List ℤ) (x : ℤ) (e : Element) → Begins (v ++ x ∷ []) e → Begins v e
+pub shorter : (v : List ℤ) (x : ℤ) (e : Element) → Begins (v ++ x ∷ []) e → Begins v e
 shorter v x e b = (x ∷ b.0, b.1 ∙ append_assoc v (x ∷ []) b.0)
 
 abbrev Fine : Item → Type 0

@@ -40,7 +40,7 @@ strict_step y p q Greater Less m n a b l h = omega arith
 strict_step y p q Greater Equal m n a b l h = h
 strict_step y p q Greater Greater m n a b l h = h
 
-below_less : (p q : ℤ) (ys : List ℤ) → p <ℤ q → In p ys → below p ys < below q ys
+pub below_less : (p q : ℤ) (ys : List ℤ) → p <ℤ q → In p ys → below p ys < below q ys
 below_less p q [] l i = absurd i
 below_less p q (y ∷ ys) l (inl e) =
     let a : int_cmp y p ≡ Equal = ap (λ z. int_cmp z p) e ∙ tied_itself int_cmp_total p in
@@ -86,7 +86,7 @@ begins_itself front p ps =
     let long : length front < length (front ++ p ∷ ps) = simp length-append (omega arith) in
     and_from _ _ (ap (same_numbers front) (take_at front (p ∷ ps) (length front) refl) ∙ ap is_eq (tied_itself (lists_total int_cmp_total) front)) (lt-ltb _ _ long)
 
-in_follows : (front : List ℤ) (p : ℤ) (ps : List ℤ) (all : List (List ℤ)) → In (front ++ p ∷ ps) all → In p (follows front all)
+pub in_follows : (front : List ℤ) (p : ℤ) (ps : List ℤ) (all : List (List ℤ)) → In (front ++ p ∷ ps) all → In p (follows front all)
 in_follows front p ps [] i = absurd i
 in_follows front p ps (qs ∷ all) (inl e) = subst (λ z. In p (follows front (z ∷ all))) (sym e)
     (rw (begins_itself front p ps) (subst (λ x. In p (put_number x (follows front all))) (sym (get_or_at front p ps (pos 0) (length front) refl)) (put_in p (follows front all))))

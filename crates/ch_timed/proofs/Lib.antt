@@ -1,5 +1,12 @@
-pub mod Rolls
-pub mod Orders
 pub mod Blocks
-pub mod Program
+pub mod ClosedUp
 pub mod Closing
+mod Examples
+pub mod Identities
+pub mod ItemCases
+pub mod Orders
+pub mod Prefixes
+pub mod Program
+pub mod Rolls
+pub mod Sorted
+pub mod WellFormed

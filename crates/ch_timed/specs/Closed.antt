@@ -37,5 +37,10 @@ abbrev pub ranks : List (List ℤ) → List ℤ → List ℤ → List ℤ
 ranks all front [] = []
 ranks all front (p ∷ ps) = pos (below p (follows front all)) ∷ ranks all (front ++ p ∷ []) ps
 
+-- the vector of an element of the list, once the list is closed up
+abbrev pub closed_vector : List Element → Element → List ℤ
+closed_vector list e = woven (ranks (pieces list) [] (places e.vector)) (values e.vector)
+
+-- the list with its places closed up
 abbrev pub closed_up : List Element → List Element
-closed_up list = in_order (map (λ e. at_vector e (woven (ranks (pieces list) [] (places e.vector)) (values e.vector))) list)
+closed_up list = in_order (map (λ e. at_vector e (closed_vector list e)) list)

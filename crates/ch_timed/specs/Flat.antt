@@ -7,10 +7,16 @@ use Rattle.ch_timed.specs.Do.{Store, right_value}
 use Rattle.ch_nest.specs.declared.nest.ArrayDecl.{ArrayDecl}
 use Rattle.ch_nest.specs.Arrays.{place_in}
 use Rattle.ch_nest.specs.Run.{expr_value, place}
-use Rattle.ch_timed.specs.Timed.{Step}
+use Rattle.ch_timed.specs.Order.{do_all}
+use Rattle.ch_timed.specs.declared.element.Element.{Element}
+use Rattle.ch_timed.specs.Timed.{Step, step}
 
 abbrev pub execute_flat : List ArrayDecl → Step → List ℤ → List ℤ
 execute_flat arrays s cells = slice_set cells (place arrays s.body.write s.identity.iters) (expr_value arrays s.identity.iters cells s.body.right)
+
+-- the elements of an ascending list, executed in order
+abbrev pub done_flat : List ArrayDecl → List Element → List ℤ → List ℤ
+done_flat arrays list = do_all (execute_flat arrays) (map step list)
 
 abbrev pub place_of : List ArrayDecl → Cell → ℕ
 place_of arrays c = place_in arrays c.array c.subs

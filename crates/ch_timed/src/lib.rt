@@ -3,7 +3,9 @@
 #![tactic(auto)]
 
 mod element;
+mod laws;
 mod timed;
 
 pub use element::{Cell, Element, Identity, Label};
+pub use laws::{closing_keeps_order, start_in_order, start_is_run, start_well_formed};
 pub use timed::Timed;
