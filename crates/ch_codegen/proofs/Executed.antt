@@ -1,0 +1,241 @@
+-- What runs, loops and statements execute, by the pieces that they come from.
+use Rattle.std.proofs.Common.{◌≡◌, refl, sym, ap, ◌∙◌, subst, ℕ, zero, suc, ◌+◌, ◌≤◌, ◌<◌, ℤ, pos, ◌+ℤ◌, ◌-ℤ◌, ◌≤ℤ◌, ◌<ℤ◌, Bool, true, false, List, [], ◌∷◌, ◌++◌, map, length, take, get_or, ◌⊎◌, inl, inr, arith, append-nil, append_assoc, length-append, length-take-le}
+use Rattle.std.proofs.lemmas.Int.{ints}
+use Rattle.ch_affine.specs.declared.system.Range.{Range}
+use Rattle.ch_affine.specs.Rows.{IsSystem}
+use Rattle.ch_code.specs.Trace.{Traced, guarded}
+use Rattle.ch_nest.specs.Run.{count}
+use Rattle.ch_poly.specs.Points.{begins_some, natural}
+use Rattle.ch_poly.proofs.Firsts.{natural_is}
+use Rattle.ch_space.specs.declared.piece.Piece.{Piece}
+use Rattle.ch_space.specs.Pieces.{element_at, instances}
+use Rattle.ch_timed.specs.declared.element.Element.{Element}
+use Rattle.ch_timed.specs.Members.{Each, In}
+use Rattle.ch_timed.specs.Start.{turns_listed}
+use Rattle.ch_timed.proofs.Blocks.{Ascends, IsEarlier, ascends_both}
+use Rattle.ch_codegen.specs.LeastValues.{HoldEverywhere}
+use Rattle.ch_codegen.specs.Parts.{InRanges, IsAmong, Lists, looped, Together, place, range_at, Precedes, AllPrecede, Covers}
+use Rattle.ch_codegen.proofs.Inside.{in_append, append_left, append_right, length_inside, instance_inside, inside_instance, begun_inside, everywhere_begun, HasNumbers}
+use Rattle.ch_codegen.proofs.Vectors.{place_less, end_less, turn_less}
+
+-- what a piece's type and its space's keep, as far as code needs it
+pub record IsFit (p : Piece) : Type 0 where
+  pub places : length p.places ≡ suc p.levels
+  pub boxes : p.levels ≤ length p.system.boxes
+
+abbrev pub AreFit : List Piece → Type 0
+AreFit ps = (p : Piece) → In p ps → IsFit p
+
+pub each_in : {X : Type 0} (P : X → Type 0) (xs : List X) → ((x : X) → In x xs → P x) → Each P xs
+each_in P [] h = tt
+each_in P (x ∷ xs) h = (h x (inl refl), each_in P xs (λ y i. h y (inr i)))
+
+levels_of : (p : Piece) (xs : List ℤ) → IsFit p → In xs (instances p) → length xs ≡ p.levels
+levels_of p xs f i = length_inside (take p.levels p.system.boxes) xs (instance_inside p xs i).0 ∙ length-take-le p.levels p.system.boxes f.boxes
+
+pub lists_nil : (R : List Range) → Lists R [] (λ xs. [])
+lists_nil R = record { ascends = λ xs h. tt; only = λ xs e h i. absurd i; each = λ xs e h a. absurd a.1.0 }
+
+pub lists_same : (R : List Range) (ps : List Piece) (t s : Traced) → ((xs : List ℤ) → InRanges R xs → t xs ≡ s xs) → Lists R ps t → Lists R ps s
+lists_same R ps t s same a = record {
+  ascends = λ xs h. subst Ascends (same xs h) (a.ascends xs h);
+  only = λ xs e h i. a.only xs e h (subst (In e) (sym (same xs h)) i);
+  each = λ xs e h m. subst (In e) (same xs h) (a.each xs e h m);
+}
+
+precedes_earlier : (p q : Piece) (xs ys zs : List ℤ) → IsFit p → IsFit q → In (xs ++ ys) (instances p) → In (xs ++ zs) (instances q) → length xs ≤ p.levels
+    → take (length xs) p.places ≡ take (length xs) q.places → Precedes (length xs) p q → IsEarlier (element_at p (xs ++ ys)) (element_at q (xs ++ zs))
+precedes_earlier p q xs ys zs f g i j l same (inl k) =
+    let m = levels_of p (xs ++ ys) f i in
+    let n = levels_of q (xs ++ zs) g j in
+    end_less p.places q.places xs ys zs same (f.places ∙ ap suc k.0) (omega (arith, m, length-append xs ys, k.0)) (g.places ∙ ap suc (sym n)) k.1
+precedes_earlier p q xs ys zs f g i j l same (inr k) = place_less p.places q.places xs ys zs same (omega (arith, f.places, l)) k
+
+-- one after the other
+pub lists_both : (R : List Range) (ps qs : List Piece) (t s : Traced) → AreFit ps → AreFit qs → ((p : Piece) → In p ps → length R ≤ p.levels)
+    → ((p q : Piece) → In p ps → In q qs → take (length R) p.places ≡ take (length R) q.places) → AllPrecede (length R) ps qs
+    → Lists R ps t → Lists R qs s → Lists R (ps ++ qs) (λ xs. t xs ++ s xs)
+lists_both R ps qs t s f g deep same before a b = record {
+  ascends = λ xs h. ascends_both (t xs) (s xs) (a.ascends xs h) (b.ascends xs h)
+      (each_in (λ e. Each (IsEarlier e) (s xs)) (t xs) (λ e i. each_in (IsEarlier e) (s xs) (λ d j. earlier xs h e d (a.only xs e h i) (b.only xs d h j))));
+  only = λ xs e h i. elim (in_append (t xs) (s xs) e i) as (λ _. IsAmong (ps ++ qs) xs e) [
+    | inl j ↦ let m = a.only xs e h j in (m.0, (append_left ps qs m.0 m.1.0, m.1.1))
+    | inr j ↦ let m = b.only xs e h j in (m.0, (append_right ps qs m.0 m.1.0, m.1.1))
+  ];
+  each = λ xs e h m. elim (in_append ps qs m.0 m.1.0) as (λ _. In e (t xs ++ s xs)) [
+    | inl j ↦ append_left (t xs) (s xs) e (a.each xs e h (m.0, (j, m.1.1)))
+    | inr j ↦ append_right (t xs) (s xs) e (b.each xs e h (m.0, (j, m.1.1)))
+  ];
+}
+  where
+    earlier : (xs : List ℤ) → InRanges R xs → (e d : Element) → IsAmong ps xs e → IsAmong qs xs d → IsEarlier e d
+    earlier xs h e d m n =
+        let l : length R ≡ length xs = sym (length_inside R xs h) in
+        let p = m.0 in
+        let q = n.0 in
+        let low = deep p m.1.0 in
+        subst (λ z. IsEarlier z d) m.1.1.1.1 (subst (IsEarlier (element_at p (xs ++ m.1.1.0))) n.1.1.1.1
+        (precedes_earlier p q xs m.1.1.0 n.1.1.0 (f p m.1.0) (g q n.1.0) m.1.1.1.0 n.1.1.1.0 (omega (arith, l, low))
+        (subst (λ k. take k p.places ≡ take k q.places) l (same p q m.1.0 n.1.0)) (subst (λ k. Precedes k p q) l (before p q m.1.0 n.1.0))))
+
+pub in_turns : (n : ℕ) (low : ℤ) (g : ℤ → List Element) (e : Element) → In e (turns_listed n low g) → (j : ℕ) × ((j < n) × In e (g (low +ℤ pos j)))
+in_turns zero low g e i = absurd i
+in_turns (suc n) low g e i = elim (in_append (turns_listed n low g) (g (low +ℤ pos n)) e i) [
+  | inl k ↦ let r = in_turns n low g e k in (r.0, (omega (arith, r.1.0), r.1.1))
+  | inr k ↦ (n, (omega arith, k))
+]
+
+cases_last : (j n : ℕ) → j < suc n → (j ≡ n) ⊎ (j < n)
+cases_last j n l = grind arith
+
+pub turns_in : (n : ℕ) (low : ℤ) (g : ℤ → List Element) (e : Element) (j : ℕ) → j < n → In e (g (low +ℤ pos j)) → In e (turns_listed n low g)
+turns_in zero low g e j l i = absurd (omega arith)
+turns_in (suc n) low g e j l i = elim (cases_last j n l) as (λ _. In e (turns_listed n low g ++ g (low +ℤ pos n))) [
+  | inl k ↦ append_right (turns_listed n low g) (g (low +ℤ pos n)) e (subst (λ m. In e (g (low +ℤ pos m))) k i)
+  | inr k ↦ append_left (turns_listed n low g) (g (low +ℤ pos n)) e (turns_in n low g e j k i)
+]
+
+turns_ascend : (n : ℕ) (low : ℤ) (g : ℤ → List Element) → ((j : ℕ) → j < n → Ascends (g (low +ℤ pos j)))
+    → ((i j : ℕ) (e d : Element) → i < j → j < n → In e (g (low +ℤ pos i)) → In d (g (low +ℤ pos j)) → IsEarlier e d) → Ascends (turns_listed n low g)
+turns_ascend zero low g a b = tt
+turns_ascend (suc n) low g a b =
+    ascends_both (turns_listed n low g) (g (low +ℤ pos n)) (turns_ascend n low g (λ j l. a j (omega arith)) (λ i j e d l m. b i j e d l (omega arith))) (a n (omega arith))
+    (each_in (λ e. Each (IsEarlier e) (g (low +ℤ pos n))) (turns_listed n low g)
+    (λ e i. each_in (IsEarlier e) (g (low +ℤ pos n)) (λ d k. let r = in_turns n low g e i in b r.0 n e d r.1.0 (omega arith) r.1.1 k)))
+
+ranges_more : (R : List Range) (r : Range) (xs : List ℤ) (x : ℤ) → InRanges R xs → r.low ≤ℤ x → x ≤ℤ r.high → InRanges (R ++ r ∷ []) (xs ++ x ∷ [])
+ranges_more [] r [] x h l u = (l, u, tt)
+ranges_more [] r (y ∷ xs) x h l u = absurd h
+ranges_more (b ∷ R) r [] x h l u = absurd h
+ranges_more (b ∷ R) r (y ∷ xs) x h l u = (h.0, h.1, ranges_more R r xs x h.2 l u)
+
+counted : (low high : ℤ) (j : ℕ) → j < count low high → (low +ℤ pos j) ≤ℤ high
+counted low high j h = grind (arith, ints)
+
+counts : (low high : ℤ) (j : ℕ) → (low +ℤ pos j) ≤ℤ high → j < count low high
+counts low high j h = grind (arith, ints)
+
+steps_up : (low x : ℤ) → low ≤ℤ x → low +ℤ pos (natural (x -ℤ low)) ≡ x
+steps_up low x h = elim (natural_is (x -ℤ low)) [ inl e ↦ omega (arith, ints, e) | inr e ↦ omega (arith, ints, e.0, e.1) ]
+
+-- the next value lies in the range of its depth
+at_inside : (n : ℕ) (bs : List Range) (xs ys : List ℤ) (x : ℤ) (d : Range) → InRanges (take n bs) (xs ++ x ∷ ys)
+    → ((get_or bs (length xs) d).low ≤ℤ x) × (x ≤ℤ (get_or bs (length xs) d).high)
+at_inside zero bs [] ys x d h = absurd h
+at_inside zero bs (y ∷ xs) ys x d h = absurd h
+at_inside (suc n) [] [] ys x d h = absurd h
+at_inside (suc n) [] (y ∷ xs) ys x d h = absurd h
+at_inside (suc n) (b ∷ bs) [] ys x d h = (h.0, h.1)
+at_inside (suc n) (b ∷ bs) (y ∷ xs) ys x d h = at_inside n bs xs ys x d h.2
+
+-- a loop over all that the pieces have at its depth
+pub lists_loop : (R : List Range) (r : Range) (ps : List Piece) (t : Traced) → AreFit ps → Together (suc (length R)) ps → ((p : Piece) → In p ps → Covers (length R) r p)
+    → Lists (R ++ r ∷ []) ps t → Lists R ps (looped r.low r.high t)
+lists_loop R r ps t f together covers a = record { ascends = rises; only = from; each = to }
+  where
+    inner : (xs : List ℤ) (j : ℕ) → InRanges R xs → j < count r.low r.high → InRanges (R ++ r ∷ []) (xs ++ (r.low +ℤ pos j) ∷ [])
+    inner xs j h l = ranges_more R r xs (r.low +ℤ pos j) h (omega (arith, ints)) (counted r.low r.high j l)
+
+    later : (xs : List ℤ) → InRanges R xs → (x y : ℤ) (e d : Element) → x <ℤ y → IsAmong ps (xs ++ x ∷ []) e → IsAmong ps (xs ++ y ∷ []) d → IsEarlier e d
+    later xs h x y e d l m n =
+        let p = m.0 in
+        let q = n.0 in
+        let ys = m.1.1.0 in
+        let zs = n.1.1.0 in
+        let k : length R ≡ length xs = sym (length_inside R xs h) in
+        let deep = together.deep p m.1.0 in
+        let fit = (f p m.1.0).places in
+        let s = subst (λ i. take (suc i) p.places ≡ take (suc i) q.places) k (together.same p q m.1.0 n.1.0) in
+        let v : IsEarlier (element_at p (xs ++ x ∷ ys)) (element_at q (xs ++ y ∷ zs)) = turn_less p.places q.places xs ys zs x y s (omega (arith, deep, fit, k)) l in
+        let e_is : element_at p (xs ++ x ∷ ys) ≡ e = ap (element_at p) (sym (append_assoc xs (x ∷ []) ys)) ∙ m.1.1.1.1 in
+        let d_is : element_at q (xs ++ y ∷ zs) ≡ d = ap (element_at q) (sym (append_assoc xs (y ∷ []) zs)) ∙ n.1.1.1.1 in
+        subst (λ z. IsEarlier z d) e_is (subst (IsEarlier (element_at p (xs ++ x ∷ ys))) d_is v)
+
+    rises : (xs : List ℤ) → InRanges R xs → Ascends (looped r.low r.high t xs)
+    rises xs h =
+        turns_ascend (count r.low r.high) r.low (λ x. t (xs ++ x ∷ [])) (λ j l. a.ascends (xs ++ (r.low +ℤ pos j) ∷ []) (inner xs j h l))
+        (λ i j e d l m p q. later xs h (r.low +ℤ pos i) (r.low +ℤ pos j) e d (omega (arith, ints)) (a.only _ e (inner xs i h (omega arith)) p) (a.only _ d (inner xs j h m) q))
+
+    from : (xs : List ℤ) (e : Element) → InRanges R xs → In e (looped r.low r.high t xs) → IsAmong ps xs e
+    from xs e h i =
+        let k = in_turns (count r.low r.high) r.low (λ x. t (xs ++ x ∷ [])) e i in
+        let x = r.low +ℤ pos k.0 in
+        let m = a.only (xs ++ x ∷ []) e (inner xs k.0 h k.1.0) k.1.1 in
+        let p = m.0 in
+        let ys = m.1.1.0 in
+        let assoc = append_assoc xs (x ∷ []) ys in
+        (p, (m.1.0, (x ∷ ys, (subst (λ z. In z (instances p)) assoc m.1.1.1.0, ap (element_at p) (sym assoc) ∙ m.1.1.1.1))))
+
+    at_turn : (xs : List ℤ) (e : Element) (p : Piece) (ys : List ℤ) → InRanges R xs → In p ps → In (xs ++ ys) (instances p) → element_at p (xs ++ ys) ≡ e → In e (looped r.low r.high t xs)
+    at_turn xs e p [] h i k s =
+        let l = length_inside R xs h in
+        let m = levels_of p (xs ++ []) (f p i) k in
+        let deep = together.deep p i in
+        absurd (omega (arith, l, m, deep, length-append xs []))
+    at_turn xs e p (x ∷ ys) h i k s =
+        let l = length_inside R xs h in
+        let b = at_inside p.levels p.system.boxes xs ys x (record { low = pos 0; high = pos 0 }) (instance_inside p (xs ++ x ∷ ys) k).0 in
+        let c = subst (λ n. Covers n r p) (sym l) (covers p i) in
+        let j = natural (x -ℤ r.low) in
+        let up : r.low +ℤ pos j ≡ x = steps_up r.low x (omega (arith, ints, b.0, c.0)) in
+        let low : r.low ≤ℤ x = omega (arith, ints, b.0, c.0) in
+        let high : x ≤ℤ r.high = omega (arith, ints, b.1, c.1) in
+        let assoc = append_assoc xs (x ∷ []) ys in
+        let m = a.each (xs ++ x ∷ []) e (ranges_more R r xs x h low high)
+        (p, (i, (ys, (subst (λ z. In z (instances p)) (sym assoc) k, ap (element_at p) assoc ∙ s)))) in
+        turns_in (count r.low r.high) r.low (λ z. t (xs ++ z ∷ [])) e j (counts r.low r.high j (omega (arith, ints, up, high))) (subst (λ z. In e (t (xs ++ z ∷ []))) (sym up) m)
+
+    to : (xs : List ℤ) (e : Element) → InRanges R xs → IsAmong ps xs e → In e (looped r.low r.high t xs)
+    to xs e h m = at_turn xs e m.0 m.1.1.0 h m.1.0 m.1.1.1.0 m.1.1.1.1
+
+guarded_ascends : (b : Bool) (e : Element) → Ascends (guarded b (e ∷ []))
+guarded_ascends true e = (tt, tt)
+guarded_ascends false e = tt
+
+guarded_in : (b : Bool) (e d : Element) → In d (guarded b (e ∷ [])) → (b ≡ true) × (e ≡ d)
+guarded_in true e d (inl k) = (refl, k)
+guarded_in true e d (inr i) = absurd i
+guarded_in false e d i = absurd i
+
+nothing_left : {X : Type 0} (xs ys : List X) → length (xs ++ ys) ≡ length xs → ys ≡ []
+nothing_left xs [] h = refl
+nothing_left xs (y ∷ ys) h = absurd (omega (arith, length-append xs (y ∷ ys)))
+
+-- at values of all levels of a piece, its element there is the only one
+at_end : (p : Piece) (xs : List ℤ) (e : Element) → IsFit p → length xs ≡ p.levels → IsAmong (p ∷ []) xs e → In xs (instances p) × (element_at p xs ≡ e)
+at_end p xs e f l m = by m.0 m.1.1.0 m.1.0 m.1.1.1.0 m.1.1.1.1
+  where
+    at : (ys : List ℤ) → In (xs ++ ys) (instances p) → element_at p (xs ++ ys) ≡ e → In xs (instances p) × (element_at p xs ≡ e)
+    at ys i s =
+        let none = nothing_left xs ys (levels_of p (xs ++ ys) f i ∙ sym l) in
+        let same : xs ++ ys ≡ xs = ap (λ zs. xs ++ zs) none ∙ append-nil xs in
+        (subst (λ z. In z (instances p)) same i, ap (element_at p) (sym same) ∙ s)
+
+    by : (q : Piece) (ys : List ℤ) → In q (p ∷ []) → In (xs ++ ys) (instances q) → element_at q (xs ++ ys) ≡ e → In xs (instances p) × (element_at p xs ≡ e)
+    by q ys (inl k) i s = at ys (subst (λ z. In (xs ++ ys) (instances z)) (sym k) i) (subst (λ z. element_at z (xs ++ ys) ≡ e) (sym k) s)
+    by q ys (inr k) i s = absurd k
+
+-- a statement under the guard of its piece's system
+pub lists_guarded : (R : List Range) (p : Piece) → IsFit p → p.levels ≡ length R → Lists R (p ∷ []) (λ xs. guarded (begins_some p.system xs) (element_at p xs ∷ []))
+lists_guarded R p f l = record {
+  ascends = λ xs h. guarded_ascends (begins_some p.system xs) (element_at p xs);
+  only = λ xs e h i.
+      let r = guarded_in (begins_some p.system xs) (element_at p xs) e i in
+      let n = length_inside R xs h ∙ sym l in
+      let nil = append-nil xs in
+      let k = inside_instance p xs (begun_inside p.system p.levels xs n r.0) r.0 in
+      (p, (inl refl, ([], (subst (λ z. In z (instances p)) (sym nil) k, ap (element_at p) nil ∙ r.1))));
+  each = λ xs e h m.
+      let r = at_end p xs e f (length_inside R xs h ∙ sym l) m in
+      let k = (instance_inside p xs r.0).1 in
+      subst (λ b. In e (guarded b (element_at p xs ∷ []))) (sym k) (inl r.1);
+}
+
+-- a statement whose piece is all of the ranges around
+pub lists_bare : (R : List Range) (p : Piece) → IsFit p → HoldEverywhere p.system.rows p.system.boxes → take p.levels p.system.boxes ≡ R → HasNumbers p.system.boxes
+    → Lists R (p ∷ []) (λ xs. element_at p xs ∷ [])
+lists_bare R p f rows boxes some =
+    let l : p.levels ≡ length R = sym (length-take-le p.levels p.system.boxes f.boxes) ∙ ap length boxes in
+    lists_same R (p ∷ []) _ _
+    (λ xs h. ap (λ b. guarded b (element_at p xs ∷ [])) (everywhere_begun p.system p.levels xs rows some (subst (λ z. InRanges z xs) (sym boxes) h)))
+    (lists_guarded R p f l)

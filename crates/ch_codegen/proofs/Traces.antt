@@ -1,0 +1,67 @@
+-- What each kind of code tree executes, and loops between two numbers.
+use Rattle.std.proofs.Common.{◌≡◌, refl, sym, ap, ap₂, ◌∙◌, subst, ℕ, zero, suc, ℤ, pos, negsuc, neg_ℤ, ◌+ℤ◌, ◌*ℤ◌, List, [], ◌∷◌, ◌++◌, map, replicate, arith, append-nil, append_assoc}
+use Rattle.std.proofs.lemmas.Int.{ints}
+use Rattle.std.proofs.lemmas.List.{map-append}
+use Rattle.std.proofs.Math.IntN.{zero-*ℤ}
+use Rattle.std.specs.Int.{int_div_euclid}
+use Rattle.ch_affine.specs.declared.system.Range.{Range}
+use Rattle.ch_affine.specs.Affine.{value, dot}
+use Rattle.ch_affine.specs.Rows.{Rows}
+use Rattle.ch_code.specs.declared.code.Bound.{Bound}
+use Rattle.ch_code.specs.declared.code.Code.{Code}
+use Rattle.ch_code.specs.declared.code.Code.TheOpen.{Code-F}
+use Rattle.ch_code.specs.declared.code.Code.TheFolds.{fold-roll-Code}
+use Rattle.ch_code.specs.declared.code.Code.TheVariants.{Seq, Loop, Guard, Leaf, rolls-Seq, rolls-Loop, rolls-Guard, rolls-Leaf}
+use Rattle.ch_code.specs.Trace.{Traced, trace, trace_step, one_by_one, guarded, low_of, high_of}
+use Rattle.ch_nest.specs.Run.{count}
+use Rattle.ch_poly.specs.Points.{begins_some}
+use Rattle.ch_space.specs.declared.piece.Piece.{Piece}
+use Rattle.ch_space.specs.Pieces.{element_at}
+use Rattle.ch_timed.specs.Start.{turns_listed}
+use Rattle.ch_codegen.specs.Parts.{looped}
+use Rattle.ch_codegen.specs.Made.{bound, leaf, guard, loop}
+
+pub trace_seq : (parts : List Code) → trace (Seq parts) ≡ one_by_one (map trace parts)
+trace_seq parts = ap trace (sym (rolls-Seq parts)) ∙ fold-roll-Code Traced trace_step _
+
+trace_loop : (level : ℕ) (lows highs : List Bound) (inner : Code) → trace (Loop level lows highs inner) ≡ trace_step (Code-F.Loop level lows highs (trace inner))
+trace_loop level lows highs inner = ap trace (sym (rolls-Loop level lows highs inner)) ∙ fold-roll-Code Traced trace_step _
+
+trace_guard : (s : Rows) (inner : Code) → trace (Guard s inner) ≡ trace_step (Code-F.Guard s (trace inner))
+trace_guard s inner = ap trace (sym (rolls-Guard s inner)) ∙ fold-roll-Code Traced trace_step _
+
+pub trace_leaf : (p : Piece) (xs : List ℤ) → trace (leaf p) xs ≡ element_at p xs ∷ []
+trace_leaf p xs = ap (λ f. f xs) (ap trace (sym (rolls-Leaf p.label p.body p.origin p.places)) ∙ fold-roll-Code Traced trace_step _)
+
+pub trace_guarded : (p : Piece) (xs : List ℤ) → trace (guard p) xs ≡ guarded (begins_some p.system xs) (element_at p xs ∷ [])
+trace_guarded p xs = ap (λ f. f xs) (trace_guard p.system (leaf p)) ∙ ap (guarded (begins_some p.system xs)) (trace_leaf p xs)
+
+no_dot : (n : ℕ) (xs : List ℤ) → dot (replicate n (pos 0)) xs ≡ pos 0
+no_dot zero xs = refl
+no_dot (suc n) [] = refl
+no_dot (suc n) (x ∷ xs) = let a = zero-*ℤ x in let b = no_dot n xs in omega (arith, ints, a, b)
+
+bound_value : (n : ℕ) (z : ℤ) (xs : List ℤ) → value (bound n z).form xs ≡ z
+bound_value n z xs = let a = no_dot n xs in omega (arith, ints, a)
+
+whole_quotient : (z : ℤ) → int_div_euclid z (pos 1) ≡ z
+whole_quotient (pos n) = omega (arith, ints)
+whole_quotient (negsuc n) = omega (arith, ints)
+
+low_is : (n : ℕ) (z : ℤ) (xs : List ℤ) → low_of (bound n z ∷ []) xs ≡ z
+low_is n z xs = ap (λ v. neg_ℤ (int_div_euclid (neg_ℤ v) (pos 1))) (bound_value n z xs) ∙ ap neg_ℤ (whole_quotient (neg_ℤ z)) ∙ omega (arith, ints)
+
+high_is : (n : ℕ) (z : ℤ) (xs : List ℤ) → high_of (bound n z ∷ []) xs ≡ z
+high_is n z xs = ap (λ v. int_div_euclid v (pos 1)) (bound_value n z xs) ∙ whole_quotient z
+
+pub trace_looped : (depth : ℕ) (low high : ℤ) (inner : Code) (xs : List ℤ) → trace (loop depth low high inner) xs ≡ looped low high (trace inner) xs
+trace_looped depth low high inner xs =
+    ap (λ f. f xs) (trace_loop _ (bound depth low ∷ []) (bound depth high ∷ []) inner)
+    ∙ ap₂ (λ l h. turns_listed (count l h) l (λ x. trace inner (xs ++ x ∷ []))) (low_is depth low xs) (high_is depth high xs)
+
+one_more : (fs : List Traced) (f : Traced) (xs : List ℤ) → one_by_one (fs ++ f ∷ []) xs ≡ one_by_one fs xs ++ f xs
+one_more [] f xs = append-nil (f xs)
+one_more (g ∷ fs) f xs = ap (λ es. g xs ++ es) (one_more fs f xs) ∙ sym (append_assoc (g xs) (one_by_one fs xs) (f xs))
+
+pub parts_more : (parts : List Code) (part : Code) (xs : List ℤ) → one_by_one (map trace (parts ++ part ∷ [])) xs ≡ one_by_one (map trace parts) xs ++ trace part xs
+parts_more parts part xs = ap (λ fs. one_by_one fs xs) (map-append trace parts (part ∷ [])) ∙ one_more (map trace parts) (trace part) xs

@@ -1,0 +1,77 @@
+-- What the code of some pieces executes inside the loops that they share.
+use Rattle.std.specs.Prelude.{◌≡◌, ◌≢◌, ℕ, suc, ◌<◌, ◌≤◌, ℤ, pos, ◌+ℤ◌, ◌≤ℤ◌, List, [], ◌∷◌, ◌++◌, length, take, slice_index_or}
+use Rattle.std.specs.Ordering.{int_cmp}
+use Rattle.std.specs.Cmp.Lexicographic.{slice_cmp}
+use Rattle.std.specs.declared.cmp.Ordering.TheVariants.{Less}
+use Rattle.std.proofs.Common.{◌⊎◌}
+use Rattle.ch_affine.specs.declared.system.Range.{Range}
+use Rattle.ch_affine.specs.Rows.{IsSystem}
+use Rattle.ch_code.specs.Trace.{Traced}
+use Rattle.ch_nest.specs.Run.{count}
+use Rattle.ch_space.specs.declared.piece.Piece.{Piece}
+use Rattle.ch_space.specs.Pieces.{element_at, instances}
+use Rattle.ch_space.specs.Keeps.{places_of, AreApart}
+use Rattle.ch_timed.specs.declared.element.Element.{Element}
+use Rattle.ch_timed.specs.Members.{Each, In}
+use Rattle.ch_timed.specs.Start.{turns_listed}
+use Rattle.ch_timed.proofs.Blocks.{Ascends}
+
+-- the values lie in the ranges of the loops around, one in each
+abbrev pub InRanges : List Range → List ℤ → Type 0
+InRanges [] [] = Unit {0}
+InRanges [] (x ∷ xs) = ⊥
+InRanges (b ∷ bs) [] = ⊥
+InRanges (b ∷ bs) (x ∷ xs) = (b.low ≤ℤ x) × (x ≤ℤ b.high) × InRanges bs xs
+
+-- the element is one of these pieces', at level values that begin with xs
+abbrev pub IsAmong : List Piece → List ℤ → Element → Type 0
+IsAmong ps xs e = (p : Piece) × (In p ps × ((ys : List ℤ) × (In (xs ++ ys) (instances p) × (element_at p (xs ++ ys) ≡ e))))
+
+-- At values of the loops around, exactly these elements are executed, in the order of their vectors.
+pub record Lists (ranges : List Range) (ps : List Piece) (executed : Traced) : Type 0 where
+  pub ascends : (xs : List ℤ) → InRanges ranges xs → Ascends (executed xs)
+  pub only : (xs : List ℤ) (e : Element) → InRanges ranges xs → In e (executed xs) → IsAmong ps xs e
+  pub each : (xs : List ℤ) (e : Element) → InRanges ranges xs → IsAmong ps xs e → In e (executed xs)
+
+-- a loop from low to high around what is executed
+abbrev pub looped : ℤ → ℤ → Traced → Traced
+looped low high executed xs = turns_listed (count low high) low (λ x. executed (xs ++ x ∷ []))
+
+-- The pieces are at least so deep, and share the places and the loops down to that depth.
+pub record Together (depth : ℕ) (ps : List Piece) : Type 0 where
+  pub deep : (p : Piece) → In p ps → depth ≤ p.levels
+  pub same : (p q : Piece) → In p ps → In q ps → take depth p.places ≡ take depth q.places
+
+abbrev pub AreSystems : List Piece → Type 0
+AreSystems ps = Each (λ p. IsSystem p.system) ps
+
+abbrev pub place : ℕ → Piece → ℕ
+place depth p = slice_index_or p.places depth 0
+
+abbrev pub range_at : ℕ → Piece → Range
+range_at depth p = slice_index_or p.system.boxes depth (record { low = pos 0; high = pos 0 })
+
+-- A run: one piece that ends at this depth, or pieces that share the next loop.
+abbrev pub IsRun : ℕ → List Piece → Type 0
+IsRun depth [] = ⊥
+IsRun depth (p ∷ ps) = ((p.levels ≡ depth) × (ps ≡ [])) ⊎ Together (suc depth) (p ∷ ps)
+
+-- the first of these pieces, if there is one, has another place at this depth
+abbrev pub StopsAt : ℕ → ℕ → List Piece → Type 0
+StopsAt depth here [] = Unit {0}
+StopsAt depth here (q ∷ qs) = place depth q ≢ here
+
+-- p ends at this depth and comes first, or its place there is less than that of q.
+abbrev pub Precedes : ℕ → Piece → Piece → Type 0
+Precedes depth p q = ((p.levels ≡ depth) × (slice_cmp int_cmp (places_of p) (places_of q) ≡ Less)) ⊎ (place depth p < place depth q)
+
+abbrev pub AllPrecede : ℕ → List Piece → List Piece → Type 0
+AllPrecede depth ps qs = (p q : Piece) → In p ps → In q qs → Precedes depth p q
+
+-- the second range has all numbers of the first
+abbrev pub Widens : Range → Range → Type 0
+Widens r s = (s.low ≤ℤ r.low) × (r.high ≤ℤ s.high)
+
+-- the range has the numbers of the piece's box at this depth
+abbrev pub Covers : ℕ → Range → Piece → Type 0
+Covers depth r p = Widens (range_at depth p) r

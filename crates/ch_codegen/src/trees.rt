@@ -1,0 +1,54 @@
+//! Loops between two numbers.
+
+ghost use Rattle.std.specs.Prelude.{◌≡◌, ◌≤◌, ◌<◌, ◌^◌, [], ◌∷◌, IfOk};
+ghost use Rattle.ch_affine.specs.Affine.{IsAtMost};
+ghost use Rattle.ch_affine.specs.Rows.{IsBox};
+ghost use Rattle.ch_codegen.specs.Made.{bound, loop};
+
+use ch_affine::{Aff, Boxed, List, Range};
+use ch_code::{Bound, Code};
+use std::alloc::{AllocError, Global};
+
+/// A number as a bound inside `depth` loops.
+fn number_bound(alloc: Global, depth: usize, number: i64) -> Result<Bound, AllocError>
+    requires few { depth ≤ 4096 }
+    requires small { IsAtMost (2 ^ 54) number }
+    ensures { IfOk result (λ it. it ≡ bound depth number) }
+{
+    let mut coefs = List::with_capacity(alloc, depth)?;
+    for _k in 0..depth {
+        coefs.push(0)?;
+    }
+    let form = Aff {
+        coefs,
+        constant: number,
+    };
+    Ok(Bound { form, divisor: 1 })
+}
+
+fn number_bounds(alloc: Global, depth: usize, number: i64) -> Result<List<Bound>, AllocError>
+    requires few { depth ≤ 4096 }
+    requires small { IsAtMost (2 ^ 54) number }
+    ensures { IfOk result (λ bounds. bounds ≡ bound depth number ∷ []) }
+{
+    let mut bounds = List::new(alloc);
+    bounds.push(number_bound(alloc, depth, number)?)?;
+    Ok(bounds)
+}
+
+/// A loop over the numbers of a range, inside `depth` loops.
+pub fn loop_over(alloc: Global, depth: usize, range: Range, inner: Code) -> Result<Code, AllocError>
+    requires few { depth ≤ 4096 }
+    requires range { IsBox range }
+    ensures { IfOk result (λ code. code ≡ loop depth range.low range.high inner) }
+{
+    let lows = number_bounds(alloc, depth, range.low)?;
+    let highs = number_bounds(alloc, depth, range.high)?;
+    let inner = Boxed::new(alloc, inner)?;
+    Ok(Code::Loop {
+        level: depth as u32 + 1,
+        lows,
+        highs,
+        inner,
+    })
+}
