@@ -12,7 +12,7 @@ use Rattle.ch_code.specs.declared.code.Bound.{Bound}
 
 -- a form divided and rounded by the function of this name; a divisor of 1 isn't written
 abbrev pub divided_text : List ℕ → ℕ → List ℕ → List ℕ
-divided_text rounding zero form = rounding ++ codes "(" ++ form ++ codes " / 0)"
+divided_text rounding zero form = rounding ++ codes "(" ++ form ++ codes " / " ++ number_text zero ++ codes ")"
 divided_text rounding (suc zero) form = form
 divided_text rounding (suc (suc n)) form = rounding ++ codes "(" ++ form ++ codes " / " ++ number_text (suc (suc n)) ++ codes ")"
 

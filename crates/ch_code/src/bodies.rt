@@ -1,6 +1,6 @@
-ghost use Rattle.std.specs.Prelude.{◌≡◌, ◌++◌, length, OnOk, IsTrue};
-ghost use Rattle.std.specs.List.{flat_map};
-ghost use Rattle.ch_code.specs.BodyText.{access_text, array_text, body_text, expr_text, is_digit, is_own, is_plain, is_word, modulus_text, other_text, sub_text, subs_text};
+ghost use Rattle.std.specs.Prelude.{◌≡◌, ◌≤◌, ◌++◌, length, take, OnOk};
+ghost use Rattle.std.specs.List.{flat_map, list_all};
+ghost use Rattle.ch_code.specs.BodyText.{access_text, array_text, body_text, expr_text, has_other, is_own, is_plain, is_word, modulus_text, other_text, sub_text, subs_text};
 
 use crate::forms::{ORIGINAL, put_form, put_variable};
 use ch_affine::Text;
@@ -14,25 +14,47 @@ fn is_word(byte: u8) -> bool
     byte.is_ascii_alphanumeric() || byte == b'_'
 }
 
+fn all_words(name: &[u8]) -> bool
+    ensures { result ≡ list_all is_word name.now }
+{
+    name.iter().all(|byte| is_word(*byte))
+}
+
 /// Whether a name is made of letters, digits and underscores, and begins with no digit.
+#[tactic(auto, using(crate::proofs::Steps::plain_is))]
 pub(crate) fn is_plain(name: &[u8]) -> bool
     ensures { result ≡ is_plain name.now }
 {
     match name {
         [] => false,
-        [first, ..] => !first.is_ascii_digit() && name.iter().all(|byte| is_word(*byte)),
+        [first, ..] => !first.is_ascii_digit() && all_words(name),
     }
 }
 
+fn has_other(name: &[u8], array: &ArrayDecl) -> bool
+    ensures { result ≡ has_other name.now array.now }
+{
+    array.name.as_bytes() != name
+}
+
+/// Whether no array before this one has the name.
+fn is_new(arrays: &[ArrayDecl], number: usize, name: &[u8]) -> bool
+    requires { number ≤ length arrays.now }
+    ensures { result ≡ list_all (has_other name.now) (take number arrays.now) }
+{
+    arrays[..number].iter().all(|other| has_other(name, other))
+}
+
 /// Whether the name of the array of this number is plain and names no array before it.
+#[tactic(auto, using(crate::proofs::Steps::nth_name_is, crate::proofs::Steps::own_past))]
 fn is_own(arrays: &[ArrayDecl], number: usize) -> bool
     ensures { result ≡ is_own arrays.now number }
 {
-    let Some(array) = arrays.get(number) else {
+    if number >= arrays.len() {
         return false;
-    };
-    let name = array.name.as_bytes();
-    is_plain(name) && arrays[..number].iter().all(|other| !other.name.is(name))
+    }
+    let name = arrays[number].name.as_bytes();
+    is_plain(name) && is_new(arrays, number, name)
 }
 
 fn put_other(out: &mut Text, count: usize, number: usize) -> Result<(), AllocError>
@@ -45,7 +67,7 @@ fn put_other(out: &mut Text, count: usize, number: usize) -> Result<(), AllocErr
     put_number(out, number as u64)
 }
 
-#[tactic(auto, unfolding(crate::specs::BodyText::array_text))]
+#[tactic(auto, unfolding(crate::specs::BodyText::array_text), using(crate::proofs::Steps::nth_name_is, crate::proofs::Steps::own_inside))]
 fn put_array(out: &mut Text, arrays: &[ArrayDecl], number: usize) -> Result<(), AllocError>
     ensures { OnOk result (out.new ≡ out.old ++ array_text arrays.now number) }
 {

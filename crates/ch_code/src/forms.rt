@@ -78,7 +78,7 @@ fn put_constant(out: &mut Text, first: bool, constant: i64) -> Result<(), AllocE
     put_number(out, constant.unsigned_abs())
 }
 
-#[tactic(auto, using(crate::proofs::Steps::sum_more, crate::proofs::Steps::sum_all))]
+#[tactic(auto, using(crate::proofs::Steps::sum_more))]
 fn put_sum(out: &mut Text, letter: u8, coefs: &[i64], constant: i64) -> Result<(), AllocError>
     requires { letter < 128 }
     ensures { OnOk result (out.new ≡ out.old ++ sum_text letter true 1 coefs.now constant) }
