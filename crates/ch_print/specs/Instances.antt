@@ -1,4 +1,4 @@
--- Statement instances as `S0(1,2)`, elements of moves as `M0(1,2)`, and cells as `A[1][2]`.
+-- Statement instances as `S0(1,2)`, elements of moves as `M0(1,2)`, cells as `A[1][2]`, and buffers as `T:0`.
 use Rattle.std.specs.Prelude.{ℕ, ℤ, List, ◌++◌, codes}
 use Rattle.std.specs.List.{flat_map}
 use Rattle.ch_print.specs.Lists.{separated}
@@ -21,3 +21,7 @@ subscript_text z = codes "[" ++ integer_text z ++ codes "]"
 -- the array's name, and each subscript
 unfoldable pub cell_text : List ℕ → List ℤ → List ℕ
 cell_text name subscripts = name ++ flat_map subscript_text subscripts
+
+-- a buffer by its number: no array's name has a colon
+abbrev pub buffer_text : ℕ → List ℕ
+buffer_text k = codes "T:" ++ number_text k

@@ -1,6 +1,6 @@
 ghost use Rattle.std.specs.Prelude.{◌≡◌, ◌++◌, OnOk, codes};
 ghost use Rattle.std.specs.List.{flat_map};
-ghost use Rattle.ch_print.specs.Instances.{cell_text, identity_text, label_text, subscript_text};
+ghost use Rattle.ch_print.specs.Instances.{buffer_text, cell_text, identity_text, label_text, subscript_text};
 ghost use Rattle.ch_print.specs.Lists.{behind, separated};
 ghost use Rattle.ch_print.specs.Numbers.{integer_text};
 
@@ -76,4 +76,12 @@ pub fn put_cell(out: &mut Text, name: &Text, subscripts: &[i64]) -> Result<(), A
         out.append(b"]")?;
     }
     Ok(())
+}
+
+/// Adds a buffer's name, as `T:0`.
+pub fn put_buffer(out: &mut Text, number: u64) -> Result<(), AllocError>
+    ensures { OnOk result (out.new ≡ out.old ++ buffer_text number) }
+{
+    out.append(b"T:")?;
+    put_number(out, number)
 }

@@ -6,5 +6,5 @@ mod numbers;
 #[cfg(test)]
 mod tests;
 
-pub use instances::{put_cell, put_identity, put_label};
+pub use instances::{put_buffer, put_cell, put_identity, put_label};
 pub use numbers::{put_integer, put_number, put_wide};

@@ -1,4 +1,4 @@
-use crate::{put_cell, put_identity, put_number, put_wide};
+use crate::{put_buffer, put_cell, put_identity, put_number, put_wide};
 use ch_affine::{List, Text};
 use ch_timed::{Identity, Label};
 use std::test::Fail;
@@ -19,7 +19,8 @@ fn prints_instances_and_cells(rt: HostRuntime) -> Result<(), Fail> {
     put_identity(&mut out, &moved)?;
     let name = Text::of(alloc, b"A")?;
     put_cell(&mut out, &name, [3, 0].as_slice())?;
-    assert!(rt; out.is(b"S10(1,-20)M0()A[3][0]"));
+    put_buffer(&mut out, 7)?;
+    assert!(rt; out.is(b"S10(1,-20)M0()A[3][0]T:7"));
     Ok(())
 }
 

@@ -1,0 +1,6 @@
+use Rattle.std.proofs.Common.{◌≡◌, ◌+◌, ◌++◌, drop}
+use Rattle.ch_code.specs.LoopText.{more_ranges_text}
+use Rattle.ch_code.proofs.heads.put_ranges.Given as goal
+
+abbrev pub invariant-loop-k : goal.invariant-loop-k
+invariant-loop-k l = l.out ++ more_ranges_text l.around (l.k + 2) (drop l.k l.rest) ≡ l.initial.out ++ more_ranges_text l.around 2 l.rest

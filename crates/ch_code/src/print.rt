@@ -1,0 +1,260 @@
+ghost use Rattle.std.specs.Prelude.{◌≡◌, ◌<◌, ◌++◌, suc, false, length, map, OnOk, IfOk, IsTrue};
+ghost use Rattle.std.specs.List.{flat_map};
+ghost use Rattle.ch_code.specs.CodeText.{array_line, brace_lead, buffer_line, buffer_lines, code_text, escaped, extent_text, lead, leaf_text, level_of, margin, more_origins_text, name_text, origin_text, origins_text, parts_text, place_text, quoted, unit_text};
+ghost use Rattle.ch_code.specs.declared.code.Unit as unit;
+
+use crate::bodies::{is_plain, put_body};
+use crate::code::{Code, Unit};
+use crate::forms::{LOOPED, ORIGINAL, put_form, put_variable};
+use crate::heads::{put_for, put_if};
+use ch_affine::{Aff, List, Text};
+use ch_nest::{ArrayDecl, Body};
+use ch_print::{put_buffer, put_label, put_number};
+use ch_timed::Label;
+use std::alloc::{AllocError, Global};
+
+#[tactic(auto, unfolding(crate::specs::CodeText::origin_text))]
+fn put_origin(out: &mut Text, around: usize, number: usize, form: &Aff) -> Result<(), AllocError>
+    ensures { OnOk result (out.new ≡ out.old ++ origin_text around number form.now) }
+{
+    put_variable(out, ORIGINAL, number as u64)?;
+    out.append(b" = ")?;
+    put_form(out, LOOPED, around, form)
+}
+
+#[tactic(auto, using(crate::proofs::Steps::origins_more))]
+fn put_origins(out: &mut Text, around: usize, origin: &[Aff]) -> Result<(), AllocError>
+    ensures { OnOk result (out.new ≡ out.old ++ origins_text around origin.now) }
+{
+    let Some((first, rest)) = origin.split_first() else {
+        return Ok(());
+    };
+    put_origin(out, around, 1, first)?;
+    for (k, form) in rest.iter().enumerate() {
+        out.append(b", ")?;
+        put_origin(out, around, k + 2, form)?;
+    }
+    Ok(())
+}
+
+fn put_places(out: &mut Text, places: &[u32]) -> Result<(), AllocError>
+    ensures { OnOk result (out.new ≡ out.old ++ flat_map place_text places.now) }
+{
+    for place in places {
+        out.append(b" ")?;
+        put_number(out, u64::from(*place))?;
+    }
+    Ok(())
+}
+
+/// Adds a statement inside this many loops.
+#[tactic(auto, unfolding(crate::specs::CodeText::leaf_text))]
+fn put_leaf(
+    out: &mut Text,
+    arrays: &[ArrayDecl],
+    around: usize,
+    label: Label,
+    body: &Body,
+    origin: &[Aff],
+    places: &[u32],
+) -> Result<(), AllocError>
+    ensures { OnOk result (out.new ≡ out.old ++ leaf_text arrays.now around label body.now origin.now places.now) }
+{
+    put_label(out, label)?;
+    out.append(b"(")?;
+    put_origins(out, around, origin)?;
+    out.append(b") at")?;
+    put_places(out, places)?;
+    out.append(b": ")?;
+    put_body(out, arrays, origin.len(), body)?;
+    out.append(b"\n")
+}
+
+#[tactic(auto, using(crate::proofs::Steps::margin_more))]
+fn put_margin(out: &mut Text, level: usize) -> Result<(), AllocError>
+    ensures { OnOk result (out.new ≡ out.old ++ margin level) }
+{
+    for _k in 0..level {
+        out.append(b"  ")?;
+    }
+    Ok(())
+}
+
+/// One more, where it fits. So many levels have no room in any memory.
+fn next(count: usize) -> Result<usize, AllocError>
+    ensures { IfOk result (λ next. next ≡ suc count) }
+{
+    count.checked_add(1).ok_or(AllocError)
+}
+
+fn put_lead(out: &mut Text, behind: bool, level: usize) -> Result<usize, AllocError>
+    ensures added { OnOk result (out.new ≡ out.old ++ lead behind level) }
+    ensures level { IfOk result (λ own. own ≡ level_of behind level) }
+{
+    if !behind {
+        put_margin(out, level)?;
+        return Ok(level);
+    }
+    let own = next(level)?;
+    out.append(b"\n")?;
+    put_margin(out, own)?;
+    Ok(own)
+}
+
+fn put_brace_lead(out: &mut Text, behind: bool, level: usize) -> Result<(), AllocError>
+    ensures { OnOk result (out.new ≡ out.old ++ brace_lead behind level) }
+{
+    if behind {
+        out.append(b" ")
+    } else {
+        put_margin(out, level)
+    }
+}
+
+/// Adds code inside `around` loops: behind a head, or on a line of its own at this level.
+#[cycle(code)]
+#[tactic(auto, using(crate::proofs::Rolls::seq_is, crate::proofs::Rolls::loop_is, crate::proofs::Rolls::guard_is, crate::proofs::Rolls::leaf_is))]
+fn put_code(
+    out: &mut Text,
+    arrays: &[ArrayDecl],
+    code: &Code,
+    behind: bool,
+    level: usize,
+    around: usize,
+) -> Result<(), AllocError>
+    ensures { OnOk result (out.new ≡ out.old ++ code_text arrays.now code.now behind level around) }
+{
+    match code {
+        Code::Seq(parts) => {
+            put_brace_lead(out, behind, level)?;
+            out.append(b"{\n")?;
+            let deeper = next(level)?;
+            put_parts(out, arrays, parts.as_slice(), deeper, around)?;
+            put_margin(out, level)?;
+            out.append(b"}\n")
+        }
+        Code::Loop { level: number, lows, highs, inner } => {
+            let own = put_lead(out, behind, level)?;
+            put_for(out, around, *number, lows.as_slice(), highs.as_slice())?;
+            let deeper = next(around)?;
+            put_code(out, arrays, inner.get(), true, own, deeper)
+        }
+        Code::Guard { system, inner } => {
+            let own = put_lead(out, behind, level)?;
+            put_if(out, around, system)?;
+            put_code(out, arrays, inner.get(), true, own, around)
+        }
+        Code::Leaf { label, body, origin, places } => {
+            let _ = put_lead(out, behind, level)?;
+            put_leaf(out, arrays, around, *label, body, origin.as_slice(), places.as_slice())
+        }
+    }
+}
+
+#[cycle(code)]
+#[tactic(auto, using(crate::proofs::Steps::parts_more))]
+fn put_parts(
+    out: &mut Text,
+    arrays: &[ArrayDecl],
+    parts: &[Code],
+    level: usize,
+    around: usize,
+) -> Result<(), AllocError>
+    ensures { OnOk result (out.new ≡ out.old ++ parts_text (map (code_text arrays.now) parts.now) level around) }
+{
+    for part in parts {
+        put_code(out, arrays, part, false, level, around)?;
+    }
+    Ok(())
+}
+
+fn put_escaped(out: &mut Text, byte: u8) -> Result<(), AllocError>
+    requires { byte < 128 }
+    ensures { OnOk result (out.new ≡ out.old ++ escaped byte) }
+{
+    if byte == b'"' || byte == b'\\' {
+        out.append(b"\\")?;
+    }
+    out.push(byte)
+}
+
+fn put_quoted(out: &mut Text, name: &Text) -> Result<(), AllocError>
+    ensures { OnOk result (out.new ≡ out.old ++ quoted name.now) }
+{
+    out.append(b"\"")?;
+    for byte in name.as_bytes() {
+        put_escaped(out, *byte)?;
+    }
+    out.append(b"\"")
+}
+
+fn put_name(out: &mut Text, name: &Text) -> Result<(), AllocError>
+    ensures { OnOk result (out.new ≡ out.old ++ name_text name.now) }
+{
+    if is_plain(name.as_bytes()) {
+        return out.append(name.as_bytes());
+    }
+    put_quoted(out, name)
+}
+
+fn put_extents(out: &mut Text, extents: &[u32]) -> Result<(), AllocError>
+    ensures { OnOk result (out.new ≡ out.old ++ flat_map extent_text extents.now) }
+{
+    for extent in extents {
+        out.append(b"[")?;
+        put_number(out, u64::from(*extent))?;
+        out.append(b"]")?;
+    }
+    Ok(())
+}
+
+#[tactic(auto, unfolding(crate::specs::CodeText::array_line))]
+fn put_array_line(out: &mut Text, array: &ArrayDecl) -> Result<(), AllocError>
+    ensures { OnOk result (out.new ≡ out.old ++ array_line array.now) }
+{
+    out.append(b"array ")?;
+    put_name(out, &array.name)?;
+    put_extents(out, array.extents.as_slice())?;
+    out.append(b"\n")
+}
+
+fn put_array_lines(out: &mut Text, arrays: &[ArrayDecl]) -> Result<(), AllocError>
+    ensures { OnOk result (out.new ≡ out.old ++ flat_map array_line arrays.now) }
+{
+    for array in arrays {
+        put_array_line(out, array)?;
+    }
+    Ok(())
+}
+
+#[tactic(auto, unfolding(crate::specs::CodeText::buffer_line))]
+fn put_buffer_line(out: &mut Text, number: usize, extents: &[u32]) -> Result<(), AllocError>
+    ensures { OnOk result (out.new ≡ out.old ++ buffer_line number extents.now) }
+{
+    out.append(b"buffer ")?;
+    put_buffer(out, number as u64)?;
+    put_extents(out, extents)?;
+    out.append(b"\n")
+}
+
+#[tactic(auto, using(crate::proofs::Steps::buffers_more))]
+fn put_buffer_lines(out: &mut Text, temps: &[List<u32>]) -> Result<(), AllocError>
+    ensures { OnOk result (out.new ≡ out.old ++ buffer_lines 0 temps.now) }
+{
+    for (k, extents) in temps.iter().enumerate() {
+        put_buffer_line(out, k, extents.as_slice())?;
+    }
+    Ok(())
+}
+
+/// The text of a unit for people.
+#[tactic(auto, unfolding(crate::specs::CodeText::unit_text))]
+pub fn code_text(alloc: Global, unit: &Unit) -> Result<Text, AllocError>
+    ensures { IfOk result (λ text. text ≡ unit_text unit.now) }
+{
+    let mut out = Text::new(alloc);
+    put_array_lines(&mut out, unit.arrays.as_slice())?;
+    put_buffer_lines(&mut out, unit.temps.as_slice())?;
+    put_code(&mut out, unit.arrays.as_slice(), &unit.root, false, 0, 0)?;
+    Ok(out)
+}
