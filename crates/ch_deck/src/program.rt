@@ -1,6 +1,6 @@
 ghost use Rattle.std.specs.Prelude.{◌≡◌};
 ghost use Rattle.std.specs.List.{All};
-ghost use Rattle.ch_deck.specs.Programs.{IsProgram};
+ghost use Rattle.ch_deck.specs.Programs.{IsDeck, IsProgram};
 
 use ch_affine::{List, Text};
 use ch_nest::{Fill, Nest};
@@ -38,6 +38,14 @@ impl Model for Deck {
 }
 
 impl Deck {
+    /// The deck of these programs.
+    pub(crate) fn of(programs: List<Program>) -> Deck
+        requires { IsDeck programs }
+        ensures { result ≡ programs }
+    {
+        Deck { programs }
+    }
+
     /// The programs, in the order of the text.
     pub fn programs(&self) -> &[Program]
         ensures value { result.now ≡ self.now }

@@ -29,9 +29,7 @@ fn judged(alloc: Global, bytes: &[u8], found: List<Found>) -> Result<Deck, DeckE
 {
     match first_unfit(alloc, bytes, found.as_slice())? {
         Some(refusal) => Err(DeckError::Refused(refusal)),
-        None => Ok(Deck {
-            programs: programs_of(alloc, found)?,
-        }),
+        None => Ok(Deck::of(programs_of(alloc, found)?)),
     }
 }
 

@@ -1,7 +1,7 @@
 //! The program's commands: words and bytes in, a text and a status out.
 #![tactic(auto)]
 
-mod answer;
+mod answers;
 mod eval;
 mod run;
 mod show;

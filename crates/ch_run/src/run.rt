@@ -6,7 +6,7 @@ ghost use Rattle.ch_io.specs.Streams.{AppendsPart};
 ghost use Rattle.ch_run.specs.Answers.{Answers, AnswersInPart, most_read};
 ghost use Rattle.ch_run.specs.Commands.{command_of, usage};
 
-use crate::answer::answer;
+use crate::answers::answer_to;
 use crate::words::{Command, command_of};
 use ch_io::{Gate, ReadError, Sink, Source, read_input, write_all};
 use std::alloc::Global;
@@ -51,7 +51,7 @@ fn carried_out<S: Source, K: Sink>(
     match read_input(alloc, source, MOST_READ) {
         Err(ReadError::Failed) => 3,
         Err(ReadError::Memory) => 5,
-        Ok(bytes) => match answer(alloc, command, &bytes) {
+        Ok(bytes) => match answer_to(alloc, command, &bytes) {
             Err(_) => 5,
             Ok(answer) => match write_all(sink, answer.text.as_bytes()) {
                 Ok(()) => answer.status,

@@ -10,6 +10,5 @@ pub mod PieceNumbers
 pub mod Readings
 pub mod Bodies
 pub mod Assembled
-
 pub mod Turning
 pub mod EndsOf

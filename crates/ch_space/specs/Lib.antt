@@ -5,5 +5,6 @@ pub mod Statements
 pub mod Built
 pub mod Members
 pub mod Fitting
-
 pub mod Turned
+pub mod Judged
+pub mod Judges
