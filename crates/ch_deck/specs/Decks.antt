@@ -1,6 +1,6 @@
 -- A deck, or its first refusal: the length, then the tokens, then the sections from the first token to the last, then whether each
 -- program in turn can be run.
-use Rattle.std.specs.Prelude.{ℕ, ℤ, List, [], ◌∷◌, length, map, nat_lt, Option, Some, None, Result, Ok, Err, if◌then◌else◌}
+use Rattle.std.specs.Prelude.{ℕ, List, [], length, map, nat_lt, Option, Some, None, Result, Ok, Err, if◌then◌else◌}
 use Rattle.ch_deck.specs.declared.program.Program.{Program}
 use Rattle.ch_deck.specs.declared.refusal.Refused.{Refused}
 use Rattle.ch_deck.specs.declared.sections.Found.{Found}
@@ -32,13 +32,13 @@ lexed (Err e) = Err (refusal_of e)
 abbrev pub read_of : List ℕ → Result (List Found) ParseError
 read_of bytes = lexed (tokens_of bytes) >>= sections_of bytes
 
-abbrev judged : Option Refused → List Found → Result (List Program) Refused
-judged (Some refusal) found = Err refusal
-judged None found = Ok (map program_of found)
+abbrev pub told_of : Option Refused → List Found → Result (List Program) Refused
+told_of (Some refusal) found = Err refusal
+told_of None found = Ok (map program_of found)
 
 -- a reader's refusal with its line and column; want of memory, which no definition gives, counts as the text's length
 abbrev pub spotted : List ℕ → Result (List Found) ParseError → Result (List Program) Refused
-spotted bytes (Ok found) = judged (first_unfit bytes found) found
+spotted bytes (Ok found) = told_of (first_unfit bytes found) found
 spotted bytes (Err (errors.Refused code at value)) = Err (refused_at bytes code at (value_text code value))
 spotted bytes (Err errors.Memory) = Err too_long
 

@@ -1,5 +1,6 @@
 -- Programs that can't be run.
-use Rattle.std.specs.Prelude.{ℕ, ℤ, pos, List, [], ◌∷◌, ◌++◌, codes, Option, Some, None, slice_index_or, slice_get, Result, Ok, Err}
+use Rattle.std.specs.Bool.{IsTrue}
+use Rattle.std.specs.Prelude.{ℕ, List, [], ◌∷◌, ◌++◌, codes, Option, Some, None, slice_index_or, slice_get}
 use Rattle.std.specs.Option.{option_map_or}
 use Rattle.ch_deck.specs.declared.program.Program.{Program}
 use Rattle.ch_deck.specs.declared.refusal.Refused.{Refused}
@@ -7,6 +8,7 @@ use Rattle.ch_deck.specs.declared.sections.Found.{Found}
 use Rattle.ch_deck.specs.Refusals.{refused_at}
 use Rattle.ch_lex.specs.declared.error.Code2.TheVariants.{S1, S2}
 use Rattle.ch_nest.specs.declared.nest.ArrayDecl.{ArrayDecl}
+use Rattle.ch_nest.specs.Sound.{is_sound}
 use Rattle.ch_print.specs.Instances.{cell_text, identity_text}
 use Rattle.ch_space.specs.declared.error.SpaceError.{SpaceError}
 use Rattle.ch_space.specs.declared.error.SpaceError.TheVariants.{TooMany, OutOfRange, Memory}
@@ -47,3 +49,6 @@ first_unfit bytes (f ∷ fs) = or_else (unfit bytes f) (first_unfit bytes fs)
 
 abbrev pub program_of : Found → Program
 program_of f = record { name = f.program.name; nest = f.program.nest; fills = f.program.fills }
+
+abbrev pub IsSound : Found → Type 0
+IsSound f = IsTrue (is_sound f.program.nest)

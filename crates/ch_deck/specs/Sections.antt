@@ -1,9 +1,10 @@
 -- The sections of a deck, one after another.
-use Rattle.std.specs.Prelude.{ℕ, zero, suc, Bool, true, false, not, nat_lt, List, [], ◌∷◌, ◌++◌, length, map, drop, Result, Ok}
+use Rattle.std.specs.Prelude.{◌≡◌, ℕ, zero, suc, ◌+◌, ◌<◌, ◌≤◌, Bool, true, false, not, nat_lt, IsTrue, List, [], ◌∷◌, ◌++◌, length, map, drop, Result, Ok}
+use Rattle.std.specs.List.{All}
 use Rattle.ch_deck.specs.declared.sections.Found.{Found}
 use Rattle.ch_deck.specs.declared.sections.Sort.{Sort}
 use Rattle.ch_deck.specs.declared.sections.Sort.TheVariants as sorts
-use Rattle.ch_deck.specs.Programs.{has_name, most_programs}
+use Rattle.ch_deck.specs.Programs.{has_name, most_programs, names_differ}
 use Rattle.ch_lex.specs.declared.error.Code2.TheVariants.{D1, D3, D6, Z2}
 use Rattle.ch_lex.specs.declared.error.ParseError.{ParseError}
 use Rattle.ch_lex.specs.declared.keyword.Keyword.{Keyword}
@@ -38,7 +39,7 @@ names found = map (λ f. f.program.name) found
 unfoldable pub named_at : List ℕ → List Found → List Token → Result Unit ParseError
 named_at bytes found ts = choose (is_name (seen bytes ts))
     (λ _. guarded (not (has_name (text_at bytes ts) (names found))) D3 (place bytes ts)
-      (λ _. guarded (nat_lt (length found) most_programs) D6 (place bytes ts) (λ _. Ok tt)))
+    (λ _. guarded (nat_lt (length found) most_programs) D6 (place bytes ts) (λ _. Ok tt)))
     (λ _. Ok tt)
 
 -- a program section, at token `from`
@@ -64,3 +65,17 @@ sections_from (suc left) bytes tokens from found = choose (nat_lt from (length t
 -- A 17th program is refused, so no more than 17 sections are begun.
 abbrev pub sections_of : List ℕ → List Token → Result (List Found) ParseError
 sections_of bytes tokens = sections_from 17 bytes tokens 0 []
+
+-- no program that was found has the name, and there may be one more
+pub record IsNew (found : List Found) (name : List ℕ) : Type 0 where
+  pub other : has_name name (names found) ≡ false
+  pub room : length found < most_programs
+
+abbrev pub IsFilled : Found → Type 0
+IsFilled f = length f.program.fills ≡ length f.program.nest.arrays
+
+-- what is known of the programs that were found
+pub record AreFound (found : List Found) : Type 0 where
+  pub few : length found ≤ most_programs
+  pub differ : IsTrue (names_differ (names found))
+  pub filled : All IsFilled found

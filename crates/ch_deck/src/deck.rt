@@ -1,8 +1,9 @@
-ghost use Rattle.std.specs.Prelude.{◌≡◌, ◌<◌, ◌^◌, length, map, slice_index_or, IfOk};
-ghost use Rattle.std.specs.Option.{option_map_or};
-ghost use Rattle.ch_deck.specs.Judged.{first_unfit, instance_text, name_of, program_of, told, unfit};
+ghost use Rattle.std.specs.Prelude.{◌≡◌, ◌<◌, ◌^◌, Some, None, length, map, slice_index_or, IfOk};
+ghost use Rattle.std.specs.List.{All};
+ghost use Rattle.ch_deck.specs.Judged.{IsSound, first_unfit, instance_text, program_of, told, unfit};
 ghost use Rattle.ch_deck.specs.Refusals.{refused_at, value_text};
 ghost use Rattle.ch_lex.specs.Spots.{spot_of};
+ghost use Rattle.ch_space.specs.declared.error.SpaceError.TheVariants.{OutOfRange, TooMany};
 
 use crate::program::Program;
 use crate::refusal::Refused;
@@ -80,27 +81,6 @@ fn instance_text(
     Ok(text)
 }
 
-/// How a nest's judgement is told.
-fn told(alloc: Global, bytes: &[u8], found: &Found, error: SpaceError) -> Result<Option<Refused>, AllocError>
-    requires { length bytes.now < 2 ^ 31 }
-    ensures { IfOk result (λ r. r ≡ told bytes.now found.now error) }
-{
-    match error {
-        SpaceError::Memory => Ok(None),
-        SpaceError::TooMany => Ok(Some(refused_at(bytes, Code2::S1, found.name_at, Text::new(alloc)))),
-        SpaceError::OutOfRange {
-            first,
-            access,
-            cell,
-        } => {
-            let arrays = found.program.nest.arrays.as_slice();
-            let text = instance_text(alloc, arrays, &first, &cell)?;
-            let at = access_at(found.program.accesses.as_slice(), access);
-            Ok(Some(refused_at(bytes, Code2::S2, at, text)))
-        }
-    }
-}
-
 fn access_at(accesses: &[u32], access: u32) -> u32
     ensures { result ≡ slice_index_or accesses.now access 0 }
 {
@@ -110,22 +90,64 @@ fn access_at(accesses: &[u32], access: u32) -> u32
     }
 }
 
+/// The refusal of a program that takes too many turns, at its name.
+fn too_many(alloc: Global, bytes: &[u8], found: &Found) -> Refused
+    requires { length bytes.now < 2 ^ 31 }
+    ensures { Some result ≡ told bytes.now found.now TooMany }
+{
+    refused_at(bytes, Code2::S1, found.name_at, Text::new(alloc))
+}
+
+/// The refusal of a program whose subscript leaves its array, at that access.
+fn out_of_range(
+    alloc: Global,
+    bytes: &[u8],
+    found: &Found,
+    first: &Identity,
+    access: u32,
+    cell: &Cell,
+) -> Result<Refused, AllocError>
+    requires { length bytes.now < 2 ^ 31 }
+    ensures { IfOk result (λ r. Some r ≡ told bytes.now found.now (OutOfRange first.now access cell.now)) }
+{
+    let text = instance_text(alloc, found.program.nest.arrays.as_slice(), first, cell)?;
+    let at = access_at(found.program.accesses.as_slice(), access);
+    Ok(refused_at(bytes, Code2::S2, at, text))
+}
+
 /// Why a program can't be run, if it can't.
+#[tactic(auto, unfolding(crate::specs::Judged::unfit))]
 fn unfit(alloc: Global, bytes: &[u8], found: &Found) -> Result<Option<Refused>, AllocError>
     requires { length bytes.now < 2 ^ 31 }
-    ensures { IfOk result (λ r. r ≡ unfit bytes.now found.now) }
+    ensures exact { IfOk result (λ r. r ≡ unfit bytes.now found.now) }
+    ensures sound { IfOk result (λ r. r ≡ None → IsSound found.now) }
 {
     match judged(alloc, &found.program.nest) {
         Ok(()) => Ok(None),
         Err(SpaceError::Memory) => Err(AllocError),
-        Err(error) => told(alloc, bytes, found, error),
+        Err(SpaceError::TooMany) => Ok(Some(too_many(alloc, bytes, found))),
+        Err(
+            SpaceError::OutOfRange {
+                first,
+                access,
+                cell,
+            },
+        ) => {
+            let refusal = out_of_range(alloc, bytes, found, &first, access, &cell)?;
+            Ok(Some(refusal))
+        }
     }
 }
 
 /// The refusal of the first program that can't be run, if there is one.
-pub(crate) fn first_unfit(alloc: Global, bytes: &[u8], found: &[Found]) -> Result<Option<Refused>, AllocError>
+pub(crate) fn first_unfit(
+    alloc: Global,
+    bytes: &[u8],
+    found: &[Found],
+) -> Result<Option<Refused>, AllocError>
     requires { length bytes.now < 2 ^ 31 }
-    ensures { IfOk result (λ r. r ≡ first_unfit bytes.now found.now) }
+    ensures exact { IfOk result (λ r. r ≡ first_unfit bytes.now found.now) }
+    ensures sound { IfOk result (λ r. r ≡ None → All IsSound found.now) }
 {
     match found {
         [] => Ok(None),

@@ -27,10 +27,12 @@ impl Model for Deck {
     ghost use Rattle.std.specs.Prelude.{List};
     ghost use Rattle.std.specs.Coded.{codes};
     ghost use Rattle.ch_deck.specs.declared.program.Program.{Program};
-    ghost use Rattle.ch_deck.specs.contracts.program.Program as program;
+    ghost use Rattle.ch_nest.specs.contracts.nest.Item as item;
     ghost use Rattle.ch_deck.specs.Programs.{IsDeck};
 
     ghost Value = { List Program };
+
+    ghost coded = { Prim.hlevel (codes, item.the_row.coded) };
 
     ghost view = { λ d. d.programs };
 

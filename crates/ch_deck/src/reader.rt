@@ -1,5 +1,6 @@
-ghost use Rattle.std.specs.Prelude.{◌≡◌, ◌≤◌, ◌<◌, ◌^◌, length};
-ghost use Rattle.ch_deck.specs.Decks.{deck_of, judged, read_of, spotted};
+ghost use Rattle.std.specs.Prelude.{◌≡◌, ◌≤◌, ◌<◌, ◌^◌, Ok, length, IfOk};
+ghost use Rattle.ch_deck.specs.Decks.{deck_of, read_of, spotted};
+ghost use Rattle.ch_deck.specs.Sections.{AreFound};
 ghost use Rattle.ch_deck.specs.Gives.{GivesDeck};
 ghost use Rattle.ch_nestparse.specs.Gives.{Gives};
 
@@ -17,14 +18,16 @@ const MOST_BYTES: usize = 1048576;
 /// The sections of a text.
 fn read_of(alloc: Global, bytes: &[u8]) -> Result<List<Found>, ParseError>
     requires { length bytes.now < 2 ^ 31 }
-    ensures { Gives (λ all. all) result (read_of bytes.now) }
+    ensures exact { Gives (λ all. all) result (read_of bytes.now) }
+    ensures fine { IfOk result AreFound }
 {
     let tokens = tokens(alloc, bytes)?;
     sections(alloc, bytes, tokens.as_slice())
 }
 
 fn judged(alloc: Global, bytes: &[u8], found: List<Found>) -> Result<Deck, DeckError>
-    requires { length bytes.now < 2 ^ 31 }
+    requires short { length bytes.now < 2 ^ 31 }
+    requires fine { AreFound found }
     ensures { GivesDeck result (spotted bytes.now (Ok found)) }
 {
     match first_unfit(alloc, bytes, found.as_slice())? {

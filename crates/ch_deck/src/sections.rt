@@ -1,8 +1,7 @@
 ghost use Rattle.std.specs.Prelude.{◌≡◌, ◌<◌, ◌≤◌, ◌^◌, ◌+◌, ◌++◌, ◌∷◌, [], length, not, map, nat_lt, IfOk, IsTrue};
-ghost use Rattle.std.specs.Char.{is_ascii};
-ghost use Rattle.std.specs.List.{All, list_all};
 ghost use Rattle.ch_deck.specs.Programs.{has_name, most_programs, names_differ};
-ghost use Rattle.ch_deck.specs.Sections.{found_at, is_name, named_at, names, section_from, sections_from, sections_of, sort_of, word_sort};
+ghost use Rattle.ch_deck.specs.Sections.{AreFound, IsFilled, found_at, is_name, named_at, names, section_from, sections_from, sections_of, sort_of, word_sort};
+ghost use Rattle.ch_lex.specs.Cut.{IsCut};
 ghost use Rattle.ch_nestparse.specs.Gives.{Gives};
 
 use ch_affine::List;
@@ -96,9 +95,11 @@ fn found_at(
 ) -> Result<Found, ParseError>
     requires short { length bytes.now < 2 ^ 32 }
     requires few { length tokens.now < 2 ^ 32 }
-    requires ascii { IsTrue (list_all is_ascii bytes.now) }
+    requires cut { IsCut bytes.now 0 tokens.now }
     requires from { from < length tokens.now }
-    ensures { Gives (λ f. f) result (found_at bytes.now tokens.now from found.now) }
+    ensures exact { Gives (λ f. f) result (found_at bytes.now tokens.now from found.now) }
+    ensures filled { IfOk result IsFilled }
+    ensures within { IfOk result (λ f. f.program.next ≤ length tokens.now) }
 {
     let behind = tokens.split_at(from as usize + 1).1;
     named(bytes, found, behind)?;
@@ -120,9 +121,11 @@ fn section_from(
 ) -> Result<Found, ParseError>
     requires short { length bytes.now < 2 ^ 32 }
     requires few { length tokens.now < 2 ^ 32 }
-    requires ascii { IsTrue (list_all is_ascii bytes.now) }
+    requires cut { IsCut bytes.now 0 tokens.now }
     requires from { from < length tokens.now }
-    ensures { Gives (λ f. f) result (section_from bytes.now tokens.now from found.now) }
+    ensures exact { Gives (λ f. f) result (section_from bytes.now tokens.now from found.now) }
+    ensures filled { IfOk result IsFilled }
+    ensures within { IfOk result (λ f. f.program.next ≤ length tokens.now) }
 {
     let here = tokens.split_at(from as usize).1;
     match sort_of(seen(bytes, here)) {
@@ -144,9 +147,11 @@ fn sections_from(
 ) -> Result<List<Found>, ParseError>
     requires short { length bytes.now < 2 ^ 32 }
     requires few { length tokens.now < 2 ^ 32 }
-    requires ascii { IsTrue (list_all is_ascii bytes.now) }
+    requires cut { IsCut bytes.now 0 tokens.now }
     requires from { from ≤ length tokens.now }
-    ensures { Gives (λ all. all) result (sections_from left bytes.now tokens.now from found) }
+    requires fine { AreFound found }
+    ensures exact { Gives (λ all. all) result (sections_from left bytes.now tokens.now from found) }
+    ensures fine { IfOk result AreFound }
 {
     if left == 0 || from as usize >= tokens.len() {
         return Ok(found);
@@ -166,8 +171,9 @@ pub(crate) fn sections(
 ) -> Result<List<Found>, ParseError>
     requires short { length bytes.now < 2 ^ 32 }
     requires few { length tokens.now < 2 ^ 32 }
-    requires ascii { IsTrue (list_all is_ascii bytes.now) }
-    ensures { Gives (λ all. all) result (sections_of bytes.now tokens.now) }
+    requires cut { IsCut bytes.now 0 tokens.now }
+    ensures exact { Gives (λ all. all) result (sections_of bytes.now tokens.now) }
+    ensures fine { IfOk result AreFound }
 {
     sections_from(alloc, MOST_SECTIONS, bytes, tokens, 0, List::new(alloc))
 }
