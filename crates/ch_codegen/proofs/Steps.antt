@@ -1,5 +1,5 @@
 -- Steps of the generator: over the pieces of a slice, and over the parts of their code.
-use Rattle.std.proofs.Common.{◌≡◌, ◌≢◌, refl, sym, ap, ◌∙◌, subst, ℕ, zero, suc, ◌+◌, ◌-◌, ◌*◌, ◌≤◌, ◌<◌, ℤ, pos, List, [], ◌∷◌, ◌++◌, map, length, take, drop, get_or, ◌⊎◌, inl, inr, arith, add-one, take-append-drop, length-take-le, length-append, length-drop}
+use Rattle.std.proofs.Common.{◌≡◌, ◌≢◌, refl, sym, ap, ◌∙◌, subst, ℕ, zero, suc, ◌+◌, ◌-◌, ◌≤◌, ◌<◌, ℤ, List, [], ◌∷◌, ◌++◌, map, length, take, drop, get_or, ◌⊎◌, inl, inr, arith, add-one, take-append-drop, length-take-le, length-append}
 use Rattle.std.proofs.lemmas.Int.{ints}
 use Rattle.std.proofs.lemmas.List.{drop_all, drop-drop, take_all, take_more, take_rest}
 use Rattle.ch_affine.specs.declared.system.Range.{Range}
@@ -14,8 +14,8 @@ use Rattle.ch_codegen.specs.Made.{leaf, guard, loop}
 use Rattle.ch_codegen.specs.LeastValues.{HoldEverywhere}
 use Rattle.ch_codegen.specs.Parts.{Lists, Together, AreSystems, place, range_at, IsRun, StopsAt, Precedes, AllPrecede, Widens, Covers}
 use Rattle.ch_codegen.proofs.Inside.{in_append, append_left, append_right, has_numbers}
-use Rattle.ch_codegen.proofs.Executed.{IsFit, AreFit, each_in, lists_same, lists_both, lists_loop, lists_guarded, lists_bare}
-use Rattle.ch_codegen.proofs.Neighbours.{whole_in, are_fit, apart_front, apart_back, systems_front, systems_back, together_front, together_back, run_of_one, run_of_many, run_ends, run_goes_on}
+use Rattle.ch_codegen.proofs.Executed.{IsFit, each_in, lists_same, lists_both, lists_loop, lists_guarded, lists_bare}
+use Rattle.ch_codegen.proofs.Neighbours.{whole_in, are_fit, apart_front, apart_back, systems_front, systems_back, together_back, run_of_one, run_of_many, run_ends, run_goes_on}
 use Rattle.ch_codegen.proofs.Traces.{trace_leaf, trace_guarded, trace_looped, parts_more}
 
 read_in : {X : Type 0} (xs : List X) (k : ℕ) (x : X) → k < length xs → x ≡ get_or xs k x → In x xs

@@ -1,17 +1,16 @@
 -- What each kind of code tree executes, and loops between two numbers.
-use Rattle.std.proofs.Common.{◌≡◌, refl, sym, ap, ap₂, ◌∙◌, subst, ℕ, zero, suc, ℤ, pos, negsuc, neg_ℤ, ◌+ℤ◌, ◌*ℤ◌, List, [], ◌∷◌, ◌++◌, map, replicate, arith, append-nil, append_assoc}
+use Rattle.std.proofs.Common.{◌≡◌, refl, sym, ap, ap₂, ◌∙◌, ℕ, zero, suc, ℤ, pos, negsuc, neg_ℤ, List, [], ◌∷◌, ◌++◌, map, replicate, arith, append-nil, append_assoc}
 use Rattle.std.proofs.lemmas.Int.{ints}
 use Rattle.std.proofs.lemmas.List.{map-append}
 use Rattle.std.proofs.Math.IntN.{zero-*ℤ}
 use Rattle.std.specs.Int.{int_div_euclid}
-use Rattle.ch_affine.specs.declared.system.Range.{Range}
 use Rattle.ch_affine.specs.Affine.{value, dot}
 use Rattle.ch_affine.specs.Rows.{Rows}
 use Rattle.ch_code.specs.declared.code.Bound.{Bound}
 use Rattle.ch_code.specs.declared.code.Code.{Code}
 use Rattle.ch_code.specs.declared.code.Code.TheOpen.{Code-F}
 use Rattle.ch_code.specs.declared.code.Code.TheFolds.{fold-roll-Code}
-use Rattle.ch_code.specs.declared.code.Code.TheVariants.{Loop, Guard, Leaf, rolls-Loop, rolls-Guard, rolls-Leaf}
+use Rattle.ch_code.specs.declared.code.Code.TheVariants.{Loop, Guard, rolls-Loop, rolls-Guard, rolls-Leaf}
 use Rattle.ch_code.specs.Trace.{Traced, trace, trace_step, one_by_one, guarded, low_of, high_of}
 use Rattle.ch_nest.specs.Run.{count}
 use Rattle.ch_poly.specs.Points.{begins_some}
