@@ -1,5 +1,5 @@
 -- The small space of the tests is one.
-use Rattle.std.proofs.Common.{◌≡◌, ◌≢◌, refl, sym, ap, ◌∙◌, subst, ℕ, zero, suc, ◌<◌, ◌≤◌, ◌^◌, ℤ, pos, Bool, true, List, [], ◌∷◌, ◌++◌, length, map, unsigned_abs, inl, inr, arith}
+use Rattle.std.proofs.Common.{◌≡◌, ◌≢◌, refl, sym, ap, ◌∙◌, subst, ℕ, zero, suc, ◌≤◌, ◌^◌, ℤ, pos, Bool, true, List, [], ◌∷◌, ◌++◌, length, map, inl, inr, arith}
 use Rattle.std.specs.List.{All, flat_map}
 use Rattle.std.proofs.lemmas.Int.{ints}
 use Rattle.ch_affine.specs.Affine.{IsAtMost, value}
