@@ -1,8 +1,7 @@
 -- What runs, loops and statements execute, by the pieces that they come from.
-use Rattle.std.proofs.Common.{◌≡◌, refl, sym, ap, ◌∙◌, subst, ℕ, zero, suc, ◌+◌, ◌≤◌, ◌<◌, ℤ, pos, ◌+ℤ◌, ◌-ℤ◌, ◌≤ℤ◌, ◌<ℤ◌, Bool, true, false, List, [], ◌∷◌, ◌++◌, map, length, take, get_or, ◌⊎◌, inl, inr, arith, append-nil, append_assoc, length-append, length-take-le}
+use Rattle.std.proofs.Common.{◌≡◌, refl, sym, ap, ◌∙◌, subst, ℕ, zero, suc, ◌≤◌, ◌<◌, ℤ, pos, ◌+ℤ◌, ◌-ℤ◌, ◌≤ℤ◌, ◌<ℤ◌, Bool, true, false, List, [], ◌∷◌, ◌++◌, length, take, get_or, ◌⊎◌, inl, inr, arith, append-nil, append_assoc, length-append, length-take-le}
 use Rattle.std.proofs.lemmas.Int.{ints}
 use Rattle.ch_affine.specs.declared.system.Range.{Range}
-use Rattle.ch_affine.specs.Rows.{IsSystem}
 use Rattle.ch_code.specs.Trace.{Traced, guarded}
 use Rattle.ch_nest.specs.Run.{count}
 use Rattle.ch_poly.specs.Points.{begins_some, natural}
@@ -14,7 +13,7 @@ use Rattle.ch_timed.specs.Members.{Each, In}
 use Rattle.ch_timed.specs.Start.{turns_listed}
 use Rattle.ch_timed.proofs.Blocks.{Ascends, IsEarlier, ascends_both}
 use Rattle.ch_codegen.specs.LeastValues.{HoldEverywhere}
-use Rattle.ch_codegen.specs.Parts.{InRanges, IsAmong, Lists, looped, Together, place, range_at, Precedes, AllPrecede, Covers}
+use Rattle.ch_codegen.specs.Parts.{InRanges, IsAmong, Lists, looped, Together, Precedes, AllPrecede, Covers}
 use Rattle.ch_codegen.proofs.Inside.{in_append, append_left, append_right, length_inside, instance_inside, inside_instance, begun_inside, everywhere_begun, HasNumbers}
 use Rattle.ch_codegen.proofs.Vectors.{place_less, end_less, turn_less}
 

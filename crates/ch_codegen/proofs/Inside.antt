@@ -1,5 +1,5 @@
 -- What stands in the lists of points, and which level values are a piece's instances.
-use Rattle.std.proofs.Common.{◌≡◌, refl, sym, ap, ◌∙◌, subst, ℕ, zero, suc, ◌+◌, ◌≤◌, ◌<◌, ℤ, pos, ◌+ℤ◌, ◌-ℤ◌, ◌≤ℤ◌, ◌<ℤ◌, Bool, true, false, ◌&&◌, ◌||◌, cond, List, [], ◌∷◌, ◌++◌, map, length, take, ◌⊎◌, inl, inr, arith}
+use Rattle.std.proofs.Common.{◌≡◌, refl, sym, ap, ◌∙◌, subst, ℕ, zero, suc, ℤ, pos, ◌+ℤ◌, ◌-ℤ◌, ◌≤ℤ◌, ◌<ℤ◌, Bool, true, false, cond, List, [], ◌∷◌, ◌++◌, map, length, take, ◌⊎◌, inl, inr, arith}
 use Rattle.std.specs.List.{filter, flat_map, list_any, All}
 use Rattle.std.specs.Ordering.{int_cmp, int_eq, is_eq, MatchOrdering}
 use Rattle.std.specs.declared.cmp.Ordering.{Ordering}
@@ -8,8 +8,7 @@ use Rattle.std.specs.Cmp.{tied_itself, int_cmp_total, int_ranked}
 use Rattle.std.proofs.lemmas.Bool.{and_from, and_parts, or_cases, or_left, or_right}
 use Rattle.std.proofs.lemmas.Int.{ints, by_lt_z}
 use Rattle.ch_affine.specs.declared.system.Range.{Range}
-use Rattle.ch_affine.specs.Form.{Form}
-use Rattle.ch_affine.specs.Rows.{Rows, IsBox, IsSystem, all_hold}
+use Rattle.ch_affine.specs.Rows.{Rows, IsBox, all_hold}
 use Rattle.ch_poly.specs.Points.{upwards, natural, numbers, box_points, points, begins, begins_some}
 use Rattle.ch_poly.proofs.Firsts.{count_within, count_reaches}
 use Rattle.ch_space.specs.declared.piece.Piece.{Piece}

@@ -6,3 +6,4 @@ pub mod Listed
 pub mod Traces
 pub mod Steps
 pub mod Rows
+pub mod SmallSpaces

@@ -1,5 +1,5 @@
 -- What is executed for all pieces of a space is its list.
-use Rattle.std.proofs.Common.{◌≡◌, refl, sym, ap, ◌∙◌, subst, ℤ, List, [], ◌∷◌, ◌++◌, ◌⊎◌, inl, inr}
+use Rattle.std.proofs.Common.{◌≡◌, sym, ap, ◌∙◌, subst, ℤ, List, [], ◌∷◌, inl, inr}
 use Rattle.std.specs.List.{flat_map}
 use Rattle.std.specs.Ordering.{int_cmp}
 use Rattle.std.specs.declared.cmp.Ordering.TheVariants.{Less}
@@ -8,7 +8,7 @@ use Rattle.ch_code.specs.Trace.{Traced}
 use Rattle.ch_space.specs.declared.piece.Piece.{Piece}
 use Rattle.ch_space.specs.Pieces.{element_at, instances, elements, listed}
 use Rattle.ch_timed.specs.declared.element.Element.{Element}
-use Rattle.ch_timed.specs.Members.{Each, In}
+use Rattle.ch_timed.specs.Members.{In}
 use Rattle.ch_timed.specs.Timed.{in_order}
 use Rattle.ch_timed.proofs.Blocks.{Ascends, IsEarlier}
 use Rattle.ch_timed.proofs.Orders.{OneEach, at_each, in_map, map_in, not_itself, ascending_same, ordered_ascends, from_order, to_order}

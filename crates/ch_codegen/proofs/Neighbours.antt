@@ -1,5 +1,5 @@
 -- Neighbouring pieces by their place at a depth: runs, and what comes before what.
-use Rattle.std.proofs.Common.{◌≡◌, ◌≢◌, refl, sym, ap, ◌∙◌, subst, ℕ, zero, suc, ◌+◌, ◌≤◌, ◌<◌, ℤ, pos, ◌<ℤ◌, List, [], ◌∷◌, ◌++◌, map, length, take, drop, get_or, ◌⊎◌, inl, inr, arith, add-one}
+use Rattle.std.proofs.Common.{◌≡◌, ◌≢◌, refl, sym, ap, ◌∙◌, subst, ℕ, zero, suc, ◌≤◌, ◌<◌, ℤ, pos, ◌<ℤ◌, List, [], ◌∷◌, ◌++◌, map, length, take, get_or, ◌⊎◌, inl, inr, arith, add-one}
 use Rattle.std.proofs.lemmas.Int.{ints}
 use Rattle.std.proofs.lemmas.List.{take_more_same}
 use Rattle.std.specs.Ordering.{int_cmp, ordering_then, MatchOrdering}
@@ -10,9 +10,9 @@ use Rattle.std.specs.Cmp.Lexicographic.{slice_cmp}
 use Rattle.ch_affine.specs.Rows.{IsSystem}
 use Rattle.ch_space.specs.declared.piece.Piece.{Piece}
 use Rattle.ch_space.specs.Keeps.{IsWhole, places_of, AllLater, AreApart}
-use Rattle.ch_timed.specs.Members.{Each, In}
+use Rattle.ch_timed.specs.Members.{In}
 use Rattle.ch_timed.proofs.Orders.{at_each}
-use Rattle.ch_codegen.specs.Parts.{Together, AreSystems, place, IsRun, Precedes, AllPrecede, StopsAt}
+use Rattle.ch_codegen.specs.Parts.{Together, AreSystems, place, IsRun, AllPrecede, StopsAt}
 use Rattle.ch_codegen.proofs.Inside.{append_left, append_right}
 use Rattle.ch_codegen.proofs.Vectors.{IsLess, same_head, head_same, tail_same}
 use Rattle.ch_codegen.proofs.Executed.{IsFit, AreFit}

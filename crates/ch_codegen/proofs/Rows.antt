@@ -1,5 +1,5 @@
 -- A row whose least value over a box is at least 0 holds everywhere in it.
-use Rattle.std.proofs.Common.{◌≡◌, sym, ap, ◌∙◌, subst, ℕ, zero, suc, ◌+◌, ◌*◌, ◌<◌, ℤ, pos, negsuc, ◌+ℤ◌, ◌*ℤ◌, ◌≤ℤ◌, Bool, true, ◌&&◌, int_le, List, [], ◌∷◌, length, take, drop, get_or, arith}
+use Rattle.std.proofs.Common.{◌≡◌, sym, ap, ◌∙◌, ℕ, ◌+◌, ◌<◌, ℤ, pos, negsuc, ◌+ℤ◌, ◌*ℤ◌, ◌≤ℤ◌, true, int_le, List, [], ◌∷◌, length, take, drop, get_or, arith}
 use Rattle.std.proofs.lemmas.Bool.{and_from}
 use Rattle.std.proofs.lemmas.Int.{ints}
 use Rattle.std.proofs.lemmas.List.{drop_more}
@@ -8,7 +8,6 @@ use Rattle.std.proofs.Math.IntN.{+ℤ_assoc}
 use Rattle.ch_affine.specs.declared.system.Range.{Range}
 use Rattle.ch_affine.specs.Affine.{dot, value}
 use Rattle.ch_affine.specs.Form.{Form}
-use Rattle.ch_affine.specs.Rows.{all_hold}
 use Rattle.ch_poly.proofs.Cuts.{term_up, term_down}
 use Rattle.ch_poly.proofs.Firsts.{le_true}
 use Rattle.ch_codegen.specs.Parts.{InRanges}

@@ -1,11 +1,10 @@
 -- Steps of the generator: over the pieces of a slice, and over the parts of their code.
-use Rattle.std.proofs.Common.{◌≡◌, ◌≢◌, refl, sym, ap, ◌∙◌, subst, ℕ, zero, suc, ◌+◌, ◌-◌, ◌*◌, ◌≤◌, ◌<◌, ℤ, pos, List, [], ◌∷◌, ◌++◌, map, length, take, drop, get_or, ◌⊎◌, inl, inr, arith, add-one, take-append-drop, length-take-le, length-append, length-drop}
+use Rattle.std.proofs.Common.{◌≡◌, ◌≢◌, refl, sym, ap, ◌∙◌, subst, ℕ, zero, suc, ◌+◌, ◌-◌, ◌≤◌, ◌<◌, ℤ, List, [], ◌∷◌, ◌++◌, map, length, take, drop, get_or, ◌⊎◌, inl, inr, arith, add-one, take-append-drop, length-take-le, length-append}
 use Rattle.std.proofs.lemmas.Int.{ints}
 use Rattle.std.proofs.lemmas.List.{drop_all, drop-drop, take_all, take_more, take_rest}
 use Rattle.ch_affine.specs.declared.system.Range.{Range}
 use Rattle.ch_affine.specs.Rows.{IsSystem}
 use Rattle.ch_code.specs.declared.code.Code.{Code}
-use Rattle.ch_code.specs.declared.code.Code.TheVariants.{Seq}
 use Rattle.ch_code.specs.Trace.{trace, one_by_one}
 use Rattle.ch_space.specs.declared.piece.Piece.{Piece}
 use Rattle.ch_space.specs.Keeps.{IsWhole, AreApart}
@@ -15,9 +14,9 @@ use Rattle.ch_codegen.specs.Made.{leaf, guard, loop}
 use Rattle.ch_codegen.specs.LeastValues.{HoldEverywhere}
 use Rattle.ch_codegen.specs.Parts.{Lists, Together, AreSystems, place, range_at, IsRun, StopsAt, Precedes, AllPrecede, Widens, Covers}
 use Rattle.ch_codegen.proofs.Inside.{in_append, append_left, append_right, has_numbers}
-use Rattle.ch_codegen.proofs.Executed.{IsFit, AreFit, each_in, lists_same, lists_both, lists_loop, lists_guarded, lists_bare}
-use Rattle.ch_codegen.proofs.Neighbours.{whole_in, are_fit, apart_front, apart_back, systems_front, systems_back, together_front, together_back, run_of_one, run_of_many, run_ends, run_goes_on}
-use Rattle.ch_codegen.proofs.Traces.{trace_seq, trace_leaf, trace_guarded, trace_looped, parts_more}
+use Rattle.ch_codegen.proofs.Executed.{IsFit, each_in, lists_same, lists_both, lists_loop, lists_guarded, lists_bare}
+use Rattle.ch_codegen.proofs.Neighbours.{whole_in, are_fit, apart_front, apart_back, systems_front, systems_back, together_back, run_of_one, run_of_many, run_ends, run_goes_on}
+use Rattle.ch_codegen.proofs.Traces.{trace_leaf, trace_guarded, trace_looped, parts_more}
 
 read_in : {X : Type 0} (xs : List X) (k : ℕ) (x : X) → k < length xs → x ≡ get_or xs k x → In x xs
 read_in [] k x l e = absurd (omega arith)
@@ -145,8 +144,10 @@ precede_more d ps start count before run p q i j =
       | inr m ↦ run p q m k
     ]
 
-pub code_whole : (R : List Range) (ps : List Piece) (parts : List Code) (start : ℕ) → length ps ≤ start → Lists R (take start ps) (one_by_one (map trace parts)) → Lists R ps (trace (Seq parts))
-code_whole R ps parts start l lists = subst (Lists R ps) (sym (trace_seq parts)) (subst (λ z. Lists R z (one_by_one (map trace parts))) (take_all start ps l) lists)
+pub code_whole : (R : List Range) (ps : List Piece) (parts : List Code) (code : Code) (start : ℕ) → length ps ≤ start → ((xs : List ℤ) → trace code xs ≡ one_by_one (map trace parts) xs)
+    → Lists R (take start ps) (one_by_one (map trace parts)) → Lists R ps (trace code)
+code_whole R ps parts code start l same lists =
+    lists_same R ps _ _ (λ xs h. sym (same xs)) (subst (λ z. Lists R z (one_by_one (map trace parts))) (take_all start ps l) lists)
 
 pub run_is_one : (ps : List Piece) (d : ℕ) (p : Piece) → 0 < length ps → p ≡ get_or ps 0 p → IsRun d ps → p.levels ≡ d → ps ≡ p ∷ []
 run_is_one [] d p l e r s = absurd (omega arith)

@@ -1,17 +1,16 @@
 -- What each kind of code tree executes, and loops between two numbers.
-use Rattle.std.proofs.Common.{◌≡◌, refl, sym, ap, ap₂, ◌∙◌, subst, ℕ, zero, suc, ℤ, pos, negsuc, neg_ℤ, ◌+ℤ◌, ◌*ℤ◌, List, [], ◌∷◌, ◌++◌, map, replicate, arith, append-nil, append_assoc}
+use Rattle.std.proofs.Common.{◌≡◌, refl, sym, ap, ap₂, ◌∙◌, ℕ, zero, suc, ℤ, pos, negsuc, neg_ℤ, List, [], ◌∷◌, ◌++◌, map, replicate, arith, append-nil, append_assoc}
 use Rattle.std.proofs.lemmas.Int.{ints}
 use Rattle.std.proofs.lemmas.List.{map-append}
 use Rattle.std.proofs.Math.IntN.{zero-*ℤ}
 use Rattle.std.specs.Int.{int_div_euclid}
-use Rattle.ch_affine.specs.declared.system.Range.{Range}
 use Rattle.ch_affine.specs.Affine.{value, dot}
 use Rattle.ch_affine.specs.Rows.{Rows}
 use Rattle.ch_code.specs.declared.code.Bound.{Bound}
 use Rattle.ch_code.specs.declared.code.Code.{Code}
 use Rattle.ch_code.specs.declared.code.Code.TheOpen.{Code-F}
 use Rattle.ch_code.specs.declared.code.Code.TheFolds.{fold-roll-Code}
-use Rattle.ch_code.specs.declared.code.Code.TheVariants.{Seq, Loop, Guard, Leaf, rolls-Seq, rolls-Loop, rolls-Guard, rolls-Leaf}
+use Rattle.ch_code.specs.declared.code.Code.TheVariants.{Loop, Guard, rolls-Loop, rolls-Guard, rolls-Leaf}
 use Rattle.ch_code.specs.Trace.{Traced, trace, trace_step, one_by_one, guarded, low_of, high_of}
 use Rattle.ch_nest.specs.Run.{count}
 use Rattle.ch_poly.specs.Points.{begins_some}
@@ -20,9 +19,6 @@ use Rattle.ch_space.specs.Pieces.{element_at}
 use Rattle.ch_timed.specs.Start.{turns_listed}
 use Rattle.ch_codegen.specs.Parts.{looped}
 use Rattle.ch_codegen.specs.Made.{bound, leaf, guard, loop}
-
-pub trace_seq : (parts : List Code) → trace (Seq parts) ≡ one_by_one (map trace parts)
-trace_seq parts = ap trace (sym (rolls-Seq parts)) ∙ fold-roll-Code Traced trace_step _
 
 trace_loop : (level : ℕ) (lows highs : List Bound) (inner : Code) → trace (Loop level lows highs inner) ≡ trace_step (Code-F.Loop level lows highs (trace inner))
 trace_loop level lows highs inner = ap trace (sym (rolls-Loop level lows highs inner)) ∙ fold-roll-Code Traced trace_step _

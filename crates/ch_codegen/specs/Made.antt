@@ -1,9 +1,9 @@
 -- The code trees that are made: statements, guards, and loops between two numbers.
-use Rattle.std.specs.Prelude.{◌≡◌, ℕ, ◌+◌, ◌<◌, ◌≤◌, ◌^◌, ℤ, pos, List, [], ◌∷◌, length, replicate}
+use Rattle.std.specs.Prelude.{ℕ, ◌+◌, ℤ, pos, [], ◌∷◌, replicate}
 use Rattle.ch_affine.specs.Affine.{form}
 use Rattle.ch_code.specs.declared.code.Bound.{Bound}
 use Rattle.ch_code.specs.declared.code.Code.{Code}
-use Rattle.ch_code.specs.declared.code.Code.TheVariants.{Seq, Loop, Guard, Leaf}
+use Rattle.ch_code.specs.declared.code.Code.TheVariants.{Loop, Guard, Leaf}
 use Rattle.ch_space.specs.declared.piece.Piece.{Piece}
 
 -- a number, as a bound inside so many loops

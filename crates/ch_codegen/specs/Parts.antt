@@ -1,5 +1,5 @@
 -- What the code of some pieces executes inside the loops that they share.
-use Rattle.std.specs.Prelude.{◌≡◌, ◌≢◌, ℕ, suc, ◌<◌, ◌≤◌, ℤ, pos, ◌+ℤ◌, ◌≤ℤ◌, List, [], ◌∷◌, ◌++◌, length, take, slice_index_or}
+use Rattle.std.specs.Prelude.{◌≡◌, ◌≢◌, ℕ, suc, ◌<◌, ◌≤◌, ℤ, pos, ◌≤ℤ◌, List, [], ◌∷◌, ◌++◌, take, slice_index_or}
 use Rattle.std.specs.Ordering.{int_cmp}
 use Rattle.std.specs.Cmp.Lexicographic.{slice_cmp}
 use Rattle.std.specs.declared.cmp.Ordering.TheVariants.{Less}
@@ -10,7 +10,7 @@ use Rattle.ch_code.specs.Trace.{Traced}
 use Rattle.ch_nest.specs.Run.{count}
 use Rattle.ch_space.specs.declared.piece.Piece.{Piece}
 use Rattle.ch_space.specs.Pieces.{element_at, instances}
-use Rattle.ch_space.specs.Keeps.{places_of, AreApart}
+use Rattle.ch_space.specs.Keeps.{places_of}
 use Rattle.ch_timed.specs.declared.element.Element.{Element}
 use Rattle.ch_timed.specs.Members.{Each, In}
 use Rattle.ch_timed.specs.Start.{turns_listed}

@@ -8,7 +8,7 @@ ghost use Rattle.ch_codegen.specs.Parts.{AreSystems, IsRun, Lists, Together};
 use crate::runs::{extended, run_end, shared_range};
 use crate::statements::end_code;
 use crate::systems::known_systems;
-use crate::trees::loop_over;
+use crate::trees::{in_sequence, loop_over};
 use crate::units::{copied_arrays, copied_temps};
 use ch_affine::{List, Range};
 use ch_code::{Code, Unit};
@@ -33,7 +33,7 @@ fn code_of(alloc: Global, pieces: &[Piece], ranges: &[Range]) -> Result<Code, Al
         parts.push(part)?;
         start += count;
     }
-    Ok(Code::Seq(parts))
+    Ok(in_sequence(parts))
 }
 
 /// The code of a run: a statement, or a loop around the code of its pieces.

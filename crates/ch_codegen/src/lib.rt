@@ -11,3 +11,6 @@ mod trees;
 mod units;
 
 pub use generator::generate;
+
+#[cfg(test)]
+mod tests;

@@ -1,7 +1,6 @@
 use Rattle.std.proofs.Common.{◌≤ℤ◌, pos, subst, rules, arith, SFits}
 use Rattle.std.specs.Int.{w128}
 use Rattle.std.proofs.lemmas.Int.{ints, to_z-of_z}
-use Rattle.ch_codegen.specs.LeastValues.{least_value}
 use Rattle.ch_codegen.proofs.Rows.{holds_more}
 use Rattle.ch_codegen.proofs.everywhere.hold_everywhere.Goals as goal
 

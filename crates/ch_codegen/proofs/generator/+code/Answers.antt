@@ -36,7 +36,8 @@ code_of-loop-start-preserved t c =
     }
 
 pub code_of-returns : goal.code_of-returns
-code_of-returns t c = code_whole c.args.ranges.now c.args.pieces.now c.loop-start.parts c.loop-start.start c.loop-start-test.false c.loop-start.invariant.lists
+code_of-returns t c =
+    code_whole c.args.ranges.now c.args.pieces.now c.loop-start.parts c.in_sequence.result c.loop-start.start c.loop-start-test.false c.in_sequence.ensures c.loop-start.invariant.lists
 
 pub run_code-returns-then-first-depth : goal.run_code-returns-then-first-depth
 run_code-returns-then-first-depth t c =

@@ -1,7 +1,6 @@
-use Rattle.std.proofs.Common.{◌∙◌, sym, ap, subst, [], ◌≡◌}
+use Rattle.std.proofs.Common.{◌∙◌, ap}
 use Rattle.ch_code.specs.Trace.{trace}
 use Rattle.ch_space.specs.Pieces.{listed}
-use Rattle.ch_codegen.specs.Parts.{Lists}
 use Rattle.ch_codegen.proofs.Listed.{all_listed}
 use Rattle.ch_codegen.proofs.generator.generate.Goals as goal
 

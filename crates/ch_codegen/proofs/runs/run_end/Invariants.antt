@@ -1,4 +1,4 @@
-use Rattle.std.proofs.Common.{◌≡◌, ◌≤◌, take}
+use Rattle.std.proofs.Common.{◌≡◌, take}
 use Rattle.ch_space.specs.declared.piece.Piece.{Piece}
 use Rattle.ch_timed.specs.Members.{In}
 use Rattle.ch_codegen.specs.Parts.{place}

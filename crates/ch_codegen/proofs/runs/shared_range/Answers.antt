@@ -1,4 +1,4 @@
-use Rattle.std.proofs.Common.{◌∙◌, subst}
+use Rattle.std.proofs.Common.{subst}
 use Rattle.ch_codegen.specs.Parts.{Widens}
 use Rattle.ch_codegen.proofs.Steps.{covers_more}
 use Rattle.ch_codegen.proofs.runs.shared_range.Goals as goal
