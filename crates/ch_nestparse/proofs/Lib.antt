@@ -1,9 +1,13 @@
+pub mod Apart
 pub mod Ascii
 pub mod Cells
 pub mod Chains
+pub mod DeclaredFit
 pub mod Fitting
 pub mod FormsFit
 pub mod Found
+pub mod HeadsFit
+pub mod ItemsFit
 pub mod Meant
 pub mod Narrow
 pub mod Nesting
@@ -11,6 +15,7 @@ pub mod Nested
 pub mod Places
 pub mod Posts
 pub mod RightsFit
+pub mod SectionsFit
 pub mod Spelled
 pub mod Repeats
 pub mod Sums

@@ -54,6 +54,11 @@ pub sign_post : (bytes : List ℕ) (code : Code2) (s : Sign) (ts : List Token) �
 unfolding sign_at
 sign_post bytes code s ts = post_guarded (next_is bytes s ts) code (place bytes ts) (λ _. Ok (drop 1 ts)) (λ _. post_ok (Shrinks ts) (drop 1 ts) (drop_shrinks ts))
 
+pub keyword_post : (bytes : List ℕ) (code : Code2) (k : Keyword) (ts : List Token) → Post (Shrinks ts) (keyword_at bytes code k ts)
+unfolding keyword_at
+keyword_post bytes code k ts =
+    post_guarded (begins bytes k ts) code (place bytes ts) (λ _. Ok (drop 1 ts)) (λ _. post_ok (Shrinks ts) (drop 1 ts) (drop_shrinks ts))
+
 name_if_post : (look : Look) (code : Code2) (at : ℕ) (text : List ℕ) (ts : List Token) → Post (λ r. Shrinks ts r.1) (name_if look code at text ts)
 name_if_post looks.Name code at text ts = post_ok (λ r. Shrinks ts r.1) (text, ts) (omega arith)
 name_if_post other code at text ts = post_err (λ r. Shrinks ts r.1) _

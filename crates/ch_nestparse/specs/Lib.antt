@@ -1,5 +1,6 @@
 pub mod Accesses
 pub mod Declarations
+pub mod Distinct
 pub mod Entries
 pub mod Expressions
 pub mod Forms
