@@ -2,6 +2,7 @@ pub mod Apart
 pub mod Ascii
 pub mod Cells
 pub mod Chains
+pub mod Cuts
 pub mod DeclaredFit
 pub mod Fitting
 pub mod FormsFit

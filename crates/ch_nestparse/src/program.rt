@@ -107,7 +107,7 @@ fn section<'a>(
 /// The program section whose first token, `program`, is token `from`: its program, or its first refusal.
 ///
 /// Each array has a fill, no two arrays have one name, and `next` is behind `from`.
-#[tactic(auto, using(crate::proofs::Ascii::cut_ascii))]
+#[tactic(auto, using(crate::proofs::Ascii::cut_ascii, crate::proofs::Cuts::few_tokens))]
 pub fn parse_program(
     alloc: Global,
     tokens: &[Token],
@@ -115,7 +115,6 @@ pub fn parse_program(
     from: u32,
 ) -> Result<ParsedProgram, ParseError>
     requires short { length bytes.now < 2 ^ 32 }
-    requires few { length tokens.now < 2 ^ 32 }
     requires cut { IsCut bytes.now 0 tokens.now }
     requires from { from ≤ length tokens.now }
     ensures exact { Gives (λ p. p) result (program_at bytes.now tokens.now from) }
