@@ -1,12 +1,10 @@
 -- Lets and arrays that were read: what their names stand for exists, the arrays keep the limits, each has a fill, and their
 -- names differ from one another.
-use Rattle.std.proofs.Common.{◌≡◌, ℕ, zero, suc, ◌+◌, ◌*◌, ◌≤◌, ℤ, pos, negsuc, unsigned_abs, Bool, true, false, not, ◌&&◌, nat_le, List, [], ◌∷◌, ◌++◌, length, length-append, drop, Option, Some, None, Result, Ok, Err, refl, sym, ap, ◌∙◌, arith}
-use Rattle.std.specs.Bool.{IsTrue}
+use Rattle.std.proofs.Common.{◌≡◌, ℕ, ◌+◌, ◌*◌, ◌≤◌, ℤ, pos, negsuc, true, not, nat_le, List, [], ◌∷◌, ◌++◌, length, length-append, drop, Option, Some, None, Ok, refl, arith}
 use Rattle.std.specs.List.{list_all}
 use Rattle.std.proofs.lemmas.Bool.{and_parts, and_from, le-leb, leb-true}
 use Rattle.std.proofs.lemmas.List.Folds.{list_all-append}
 use Rattle.ch_lex.specs.declared.error.Code2.TheVariants.{P1, D8}
-use Rattle.ch_lex.specs.declared.error.ParseError.{ParseError}
 use Rattle.ch_lex.specs.declared.keyword.Keyword.TheVariants as words
 use Rattle.ch_lex.specs.declared.token.Sign.TheVariants as signs
 use Rattle.ch_lex.specs.declared.token.Token.{Token}
@@ -14,19 +12,18 @@ use Rattle.ch_nest.specs.Arrays.{cells_in, total}
 use Rattle.ch_nest.specs.Limits.{most_cells, most_dimensions}
 use Rattle.ch_nest.specs.Shape.{arrays_fit, is_array}
 use Rattle.ch_nest.specs.declared.nest.ArrayDecl.{ArrayDecl}
-use Rattle.ch_nest.specs.declared.nest.Fill.{Fill}
 use Rattle.ch_nestparse.specs.declared.ahead.Look.{Look}
 use Rattle.ch_nestparse.specs.declared.ahead.Look.TheVariants as looks
 use Rattle.ch_nestparse.specs.declared.declarations.Declared.{Declared}
 use Rattle.ch_nestparse.specs.declared.scope.Named.{Named}
 use Rattle.ch_nestparse.specs.declared.scope.Named.TheVariants.{Let, Array, Iterator}
-use Rattle.ch_nestparse.specs.Declarations.{array_at, arrays_at, begins_array, begins_let, extent_at, extent_if, extent_named, extents_at, fill_at, fitting, is_extent, let_at, lets_at, no_arrays, opens_bracket}
+use Rattle.ch_nestparse.specs.Declarations.{array_at, arrays_at, begins_array, begins_let, extent_at, extent_if, extents_at, fill_at, fitting, is_extent, let_at, lets_at, no_arrays, opens_bracket}
 use Rattle.ch_nestparse.specs.Distinct.{AreApart}
-use Rattle.ch_nestparse.specs.Read.{◌>>=◌, Names, find_name, place, seen, text_at}
+use Rattle.ch_nestparse.specs.Read.{Names, find_name, place, seen, text_at}
 use Rattle.ch_nestparse.proofs.Apart.{apart_push}
 use Rattle.ch_nestparse.proofs.Cells.{cells_push}
 use Rattle.ch_nestparse.proofs.Meant.{AllMeant, IsMeant, dimensions_last, meant_push, meant_wider, none_meant}
-use Rattle.ch_nestparse.proofs.Posts.{Number, Post, Shrinks, drop_shrinks, fresh_post, integer_post, keyword_post, post_bind, post_err, post_guarded, post_ok, repeated_post, sign_post}
+use Rattle.ch_nestparse.proofs.Posts.{Post, Shrinks, drop_shrinks, fresh_post, integer_post, keyword_post, post_bind, post_err, post_guarded, post_ok, repeated_post, sign_post}
 
 -- lets
 

@@ -1,6 +1,5 @@
 -- The head of a loop that was read: its ends fit, and its box is theirs and keeps the limit.
-use Rattle.std.proofs.Common.{◌≡◌, ℕ, zero, suc, ◌+◌, ◌≤◌, ℤ, pos, ◌+ℤ◌, ◌-ℤ◌, Bool, true, false, not, ◌&&◌, ◌||◌, nat_le, List, [], ◌∷◌, ◌++◌, map, length, length-append, drop, Option, Some, None, Result, Ok, Err, refl, sym, ap, ◌∙◌, arith}
-use Rattle.std.specs.Bool.{IsTrue}
+use Rattle.std.proofs.Common.{◌≡◌, ℕ, ◌+◌, ◌≤◌, ℤ, pos, ◌+ℤ◌, ◌-ℤ◌, Bool, true, false, not, ◌&&◌, ◌||◌, nat_le, List, [], ◌∷◌, ◌++◌, map, length, length-append, drop, Ok, refl, ap, ◌∙◌, arith}
 use Rattle.std.specs.List.{list_all}
 use Rattle.std.specs.Str.{bytes_eq}
 use Rattle.std.proofs.lemmas.Bool.{and_parts, and_from, le-leb, or_left, or_right}
@@ -10,10 +9,8 @@ use Rattle.std.proofs.lemmas.List.Folds.{list_all-append}
 use Rattle.ch_affine.specs.Form.{Form}
 use Rattle.ch_affine.specs.declared.system.Range.{Range}
 use Rattle.ch_lex.specs.declared.error.Code2.TheVariants.{P1}
-use Rattle.ch_lex.specs.declared.error.ParseError.{ParseError}
 use Rattle.ch_lex.specs.declared.keyword.Keyword.{Keyword}
 use Rattle.ch_lex.specs.declared.keyword.Keyword.TheVariants as words
-use Rattle.ch_lex.specs.declared.token.Sign.{Sign}
 use Rattle.ch_lex.specs.declared.token.Sign.TheVariants as signs
 use Rattle.ch_lex.specs.declared.token.Token.{Token}
 use Rattle.ch_nest.specs.Limits.{most_affine, most_forms, most_nesting}
@@ -22,7 +19,7 @@ use Rattle.ch_nestparse.specs.declared.ahead.Look.{Look}
 use Rattle.ch_nestparse.specs.declared.ahead.Look.TheVariants as looks
 use Rattle.ch_nestparse.specs.declared.heads.Ends.{Ends}
 use Rattle.ch_nestparse.specs.Heads.{Head, bounded, bounded_if, ends_at, head_at, high_at, last_of, low_at, more_at, next_is_comma, same_name_at, several_at, single_at, step_at, strict_if}
-use Rattle.ch_nestparse.specs.Read.{◌>>=◌, Names, begins, name_at, place, seen}
+use Rattle.ch_nestparse.specs.Read.{Names, begins, place, seen}
 use Rattle.ch_nestparse.proofs.Fitting.{coefs_of, constants_of, lasts_fit}
 use Rattle.ch_nestparse.proofs.FormsFit.{form_post}
 use Rattle.ch_nestparse.proofs.Posts.{Post, Shrinks, drop_shrinks, fresh_post, name_post, post_bind, post_choose, post_err, post_guarded, post_ok, repeated_post, sign_post}

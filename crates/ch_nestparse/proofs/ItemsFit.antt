@@ -1,18 +1,17 @@
 -- Items that were read fit below the loops around, and their labels count on.
-use Rattle.std.proofs.Common.{◌≡◌, ℕ, zero, suc, ◌+◌, ◌≤◌, ◌<◌, Bool, true, false, not, ◌&&◌, nat_eq, nat_le, nat_lt, List, [], ◌∷◌, ◌++◌, map, length, length-append, drop, Option, Some, None, Result, Ok, Err, refl, sym, ap, ◌∙◌, subst, arith}
+use Rattle.std.proofs.Common.{◌≡◌, ℕ, zero, suc, ◌+◌, ◌≤◌, ◌<◌, Bool, true, ◌&&◌, nat_eq, nat_lt, List, [], ◌∷◌, ◌++◌, map, length, length-append, drop, Option, Some, None, Ok, refl, sym, ap, ◌∙◌, subst, arith}
 use Rattle.std.specs.Bool.{IsTrue}
 use Rattle.std.proofs.lemmas.Bool.{and_parts, and_from, lt-ltb}
 use Rattle.std.proofs.lemmas.Bool.Decides.{nat_tests}
 use Rattle.std.proofs.lemmas.List.{length-map}
 use Rattle.ch_affine.specs.Form.{Form}
 use Rattle.ch_affine.specs.declared.system.Range.{Range}
-use Rattle.ch_lex.specs.declared.error.Code2.TheVariants.{P1, P2, P5, P6}
-use Rattle.ch_lex.specs.declared.error.ParseError.{ParseError}
+use Rattle.ch_lex.specs.declared.error.Code2.TheVariants.{P1, P5, P6}
 use Rattle.ch_lex.specs.declared.keyword.Keyword.TheVariants as words
 use Rattle.ch_lex.specs.declared.token.Sign.TheVariants as signs
 use Rattle.ch_lex.specs.declared.token.Token.{Token}
 use Rattle.ch_nest.specs.Limits.{deepest, most_nesting, most_statements}
-use Rattle.ch_nest.specs.Shape.{Numbering, Test, access_fits, after, all_numbered, all_pass, body_fits, box_of, expr_fits, has_dimensions, head_fits, highs_fit, is_small, item_fits, item_fits_step, items_fit, lows_fit, numbered, numbered_step}
+use Rattle.ch_nest.specs.Shape.{Numbering, access_fits, after, all_numbered, body_fits, box_of, expr_fits, has_dimensions, head_fits, highs_fit, is_small, item_fits, item_fits_step, items_fit, lows_fit, numbered, numbered_step}
 use Rattle.ch_nest.specs.declared.nest.ArrayDecl.{ArrayDecl}
 use Rattle.ch_nest.specs.declared.nest.Body.{Body}
 use Rattle.ch_nest.specs.declared.nest.Item.{Item}
@@ -21,9 +20,9 @@ use Rattle.ch_nest.specs.declared.nest.Item.TheOpen.{Item-F}
 use Rattle.ch_nest.specs.declared.nest.Item.TheVariants.{Loop, Assign, rolls-Loop, rolls-Assign}
 use Rattle.ch_nestparse.specs.declared.scope.Named.{Named}
 use Rattle.ch_nestparse.specs.declared.scope.Named.TheVariants.{Let, Array, Iterator}
-use Rattle.ch_nestparse.specs.Heads.{Head, head_at}
+use Rattle.ch_nestparse.specs.Heads.{Head}
 use Rattle.ch_nestparse.specs.Items.{Items, assign_at, body_at, is_more, item_at, items_at, loop_at, written}
-use Rattle.ch_nestparse.specs.Read.{◌>>=◌, Names, Read, begins, find_name, next_is, place, refused, repeated}
+use Rattle.ch_nestparse.specs.Read.{◌>>=◌, Names, Read, begins, find_name, next_is, place, refused}
 use Rattle.ch_nestparse.proofs.HeadsFit.{IsHead, head_post}
 use Rattle.ch_nestparse.proofs.Meant.{AllMeant, IsMeant, meant_deeper, meant_push}
 use Rattle.ch_nestparse.proofs.Posts.{Post, Shrinks, drop_shrinks, name_post, post_bind, post_choose, post_err, post_guarded, post_ok, repeated_post, sign_post}

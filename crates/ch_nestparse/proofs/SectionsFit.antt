@@ -1,9 +1,8 @@
 -- A section that was read: its nest is well formed, each array has a fill, the arrays' names differ, and a token was taken.
-use Rattle.std.proofs.Common.{◌≡◌, ℕ, zero, suc, ◌+◌, ◌-◌, ◌≤◌, ◌<◌, Bool, true, false, ◌&&◌, is_some, List, [], ◌∷◌, length, length-drop, drop, Some, Result, Ok, Err, refl, sym, ap, ◌∙◌, arith}
+use Rattle.std.proofs.Common.{◌≡◌, ℕ, ◌+◌, ◌≤◌, true, ◌&&◌, is_some, List, [], ◌∷◌, length, drop, Ok, ap, arith}
 use Rattle.std.specs.Bool.{IsTrue}
 use Rattle.std.proofs.lemmas.Bool.{and_from, false≢true}
 use Rattle.ch_lex.specs.declared.error.Code2.TheVariants.{P1}
-use Rattle.ch_lex.specs.declared.error.ParseError.{ParseError}
 use Rattle.ch_lex.specs.declared.keyword.Keyword.{Keyword}
 use Rattle.ch_lex.specs.declared.keyword.Keyword.TheVariants as words
 use Rattle.ch_lex.specs.declared.token.Sign.TheVariants as signs
@@ -12,11 +11,11 @@ use Rattle.ch_nest.specs.LoopNest.{LoopNest}
 use Rattle.ch_nest.specs.Shape.{all_numbered, arrays_fit, is_nest, items_fit}
 use Rattle.ch_nestparse.specs.Accesses.{accesses_in}
 use Rattle.ch_nestparse.specs.Distinct.{are_distinct}
-use Rattle.ch_nestparse.specs.Read.{◌>>=◌, begins, keyword_at, place}
+use Rattle.ch_nestparse.specs.Read.{begins, keyword_at, place}
 use Rattle.ch_nestparse.specs.Sections.{Section, before, section_at}
-use Rattle.ch_nestparse.proofs.DeclaredFit.{AreDeclared, arrays_post, declared_fit, lets_post}
+use Rattle.ch_nestparse.proofs.DeclaredFit.{arrays_post, declared_fit, lets_post}
 use Rattle.ch_nestparse.proofs.ItemsFit.{top_items_post}
-use Rattle.ch_nestparse.proofs.Posts.{Post, Shrinks, name_post, post_bind, post_guarded, post_ok, sign_post}
+use Rattle.ch_nestparse.proofs.Posts.{Post, name_post, post_bind, post_guarded, post_ok, sign_post}
 
 some_token : (bytes : List ℕ) (k : Keyword) (ts : List Token) → begins bytes k ts ≡ true → length (drop 1 ts) + 1 ≤ length ts
 some_token bytes k [] h = absurd (false≢true h)
