@@ -18,5 +18,6 @@ pub mod Posts
 pub mod RightsFit
 pub mod SectionsFit
 pub mod Spelled
+pub mod Spellings
 pub mod Repeats
 pub mod Sums

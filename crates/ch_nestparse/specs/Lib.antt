@@ -10,3 +10,4 @@ pub mod Items
 pub mod Read
 pub mod Rights
 pub mod Sections
+pub mod Spelling

@@ -5,6 +5,7 @@ ghost use Rattle.ch_lex.specs.Cut.{IsCut};
 ghost use Rattle.ch_nest.specs.Shape.{is_nest};
 ghost use Rattle.ch_nestparse.specs.Distinct.{are_distinct};
 ghost use Rattle.ch_nestparse.specs.Gives.{Gives};
+ghost use Rattle.ch_nestparse.specs.Spelling.{is_fill, is_name, is_named};
 ghost use Rattle.ch_nestparse.specs.Sections.{before, program_at, section_at};
 
 use crate::accesses::accesses;
@@ -106,8 +107,9 @@ fn section<'a>(
 
 /// The program section whose first token, `program`, is token `from`: its program, or its first refusal.
 ///
-/// Each array has a fill, no two arrays have one name, and `next` is behind `from`.
-#[tactic(auto, using(crate::proofs::Ascii::cut_ascii, crate::proofs::Cuts::few_tokens))]
+/// The tokens are those of the bytes. Then each array has a fill whose numbers have magnitude at most 2^31, the names are
+/// names of the language, no two arrays have one name, and `next` is behind `from`.
+#[tactic(auto, using(crate::proofs::Ascii::cut_ascii, crate::proofs::Cuts::few_tokens, crate::proofs::Spellings::spelled_name, crate::proofs::Spellings::spelled_arrays, crate::proofs::Spellings::spelled_fills))]
 pub fn parse_program(
     alloc: Global,
     tokens: &[Token],
@@ -120,6 +122,9 @@ pub fn parse_program(
     ensures exact { Gives (λ p. p) result (program_at bytes.now tokens.now from) }
     ensures fills { IfOk result (λ p. length p.fills ≡ length p.nest.arrays) }
     ensures distinct { IfOk result (λ p. IsTrue (are_distinct p.nest.arrays)) }
+    ensures name { IfOk result (λ p. IsTrue (is_name p.name)) }
+    ensures array_names { IfOk result (λ p. IsTrue (list_all is_named p.nest.arrays)) }
+    ensures fill_numbers { IfOk result (λ p. IsTrue (list_all is_fill p.fills)) }
     ensures behind { IfOk result (λ p. from < p.next) }
     ensures within { IfOk result (λ p. p.next ≤ length tokens.now) }
 {
