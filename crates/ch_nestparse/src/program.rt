@@ -109,7 +109,7 @@ fn section<'a>(
 ///
 /// The tokens are those of the bytes. Then each array has a fill whose numbers have magnitude at most 2^31, the names are
 /// names of the language, no two arrays have one name, and `next` is behind `from`.
-#[tactic(auto, using(crate::proofs::Ascii::cut_ascii, crate::proofs::Cuts::few_tokens, crate::proofs::Spellings::spelled_name, crate::proofs::Spellings::spelled_arrays, crate::proofs::Spellings::spelled_fills))]
+#[tactic(auto, using(crate::proofs::Ascii::cut_ascii, crate::proofs::Cuts::few_tokens, crate::proofs::Spellings::spelled_arrays, crate::proofs::Spellings::spelled_fills))]
 pub fn parse_program(
     alloc: Global,
     tokens: &[Token],
