@@ -23,3 +23,4 @@ pub use ahead::{
     text_at,
 };
 pub use program::{ParsedProgram, parse_program};
+pub use scope::{Named, Names, fresh};
