@@ -107,7 +107,7 @@ sum_by_filter : (b : Bool) (s : Statement) (rest all : List Statement) → sum (
 sum_by_filter true s rest all h = omega (arith, sum_first (instances_of s) (map instances_of rest), sum_first (instances_of s) (map instances_of all))
 sum_by_filter false s rest all h = omega (arith, sum_first (instances_of s) (map instances_of all))
 
-sum_filter : (t : Statement → Bool) (ss : List Statement) → sum (map instances_of (filter t ss)) ≤ sum (map instances_of ss)
+pub sum_filter : (t : Statement → Bool) (ss : List Statement) → sum (map instances_of (filter t ss)) ≤ sum (map instances_of ss)
 sum_filter t [] = omega arith
 sum_filter t (s ∷ ss) = sum_by_filter (t s) s (filter t ss) ss (sum_filter t ss)
 

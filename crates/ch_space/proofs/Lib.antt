@@ -12,3 +12,4 @@ pub mod Bodies
 pub mod Assembled
 pub mod Builds
 pub mod TurnSteps
+pub mod FindSteps

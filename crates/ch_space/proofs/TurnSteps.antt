@@ -1,5 +1,6 @@
 -- Turns of loops one inside another, counted one by one.
-use Rattle.std.proofs.Common.{◌≡◌, refl, sym, ap, ap₂, ◌∙◌, subst, ℕ, zero, suc, ◌+◌, ◌-◌, ◌<◌, ◌≤◌, ◌^◌, min, ℤ, pos, ◌+ℤ◌, ◌≤ℤ◌, true, List, [], ◌∷◌, ◌++◌, length, take, drop, get_or, arith, length-append}
+use Rattle.std.proofs.Common.{◌≡◌, refl, sym, ap, ap₂, ◌∙◌, subst, ℕ, zero, suc, ◌+◌, ◌-◌, ◌<◌, ◌≤◌, ◌^◌, min, ℤ, pos, ◌+ℤ◌, ◌≤ℤ◌, true, List, [], ◌∷◌, ◌++◌, length, take, drop, get_or, arith, length-append, ◌==◌}
+use Rattle.std.proofs.lemmas.Bool.{eqb-true}
 use Rattle.std.specs.Bool.{IsTrue}
 use Rattle.std.specs.List.{All, list_all}
 use Rattle.std.proofs.lemmas.Int.{ints, clamps}
@@ -136,3 +137,7 @@ turn_more inner point next k sum here r low e before h is =
     let n : k + 1 ≡ suc k = omega arith in
     is ∙ ap capped (ap₂ (λ a b. a + b) before (h ∙ ap (λ p. capped (turns_below inner p)) e)) ∙ capped_both (sum_turns k low f) (f (low +ℤ pos k))
     ∙ ap (λ m. capped (sum_turns m low f)) (sym n)
+
+pub nothing_left : (ls : List Level) → true ≡ (length ls == 0) → ls ≡ []
+nothing_left [] e = refl
+nothing_left (l ∷ ls) e = let n : length (l ∷ ls) ≡ 0 = eqb-true (length (l ∷ ls)) 0 (sym e) in absurd (omega arith)
