@@ -15,7 +15,7 @@ use Rattle.ch_nest.specs.declared.nest.Item.{Item}
 use Rattle.ch_nest.specs.declared.nest.Item.TheVariants.{Loop, Assign, rolls-Loop, rolls-Assign}
 use Rattle.ch_nest.specs.declared.nest.Item.TheOpen.{Item-F}
 use Rattle.ch_nest.specs.declared.nest.Item.TheFolds.{fold-roll-Item}
-use Rattle.ch_nest.specs.Limits.{most_work}
+use Rattle.ch_nest.specs.Limits.{most_cells, most_work}
 use Rattle.ch_nest.specs.LoopNest.{LoopNest}
 use Rattle.ch_nest.specs.Shape.{all_numbered, all_pass, arrays_fit, box_of, head_fits, is_nest, is_small, item_fits, item_fits_step, items_fit}
 use Rattle.ch_nest.specs.Sound.{items_work}
@@ -26,11 +26,15 @@ use Rattle.ch_space.specs.declared.nest_pieces.Found.{Found}
 use Rattle.ch_space.specs.declared.piece.Piece.{Piece}
 use Rattle.ch_space.specs.Built.{boxes_from, piece_of}
 use Rattle.ch_space.specs.Fitting.{Adds, AreBelow, IsBelow, LevelsFit, capped}
-use Rattle.ch_space.specs.Keeps.{most_instances}
+use Rattle.ch_space.specs.Keeps.{most_instances, IsSpace}
+use Rattle.ch_space.specs.Listed.{Listed}
+use Rattle.ch_space.specs.Pieces.{listed}
 use Rattle.ch_space.specs.Statements.{Statement, Finding, at_numbers, executed, instances_of, statements, statements_of, statements_step}
-use Rattle.ch_space.proofs.Assembled.{counts_of, pieces_of, sum_filter}
+use Rattle.ch_space.proofs.Assembled.{assembled, counts_of, listed_is, pieces_of, sum_filter}
+use Rattle.ch_space.proofs.Bodies.{few_arrays}
 use Rattle.ch_space.proofs.Shapes.{boxes_last, levels_last}
 use Rattle.ch_space.proofs.Sums.{instances_few, sum_first}
+use Rattle.ch_timed.specs.Start.{start}
 
 pub item_below : (items : List Item) (levels : List Level) (item : Item) (k : ℕ) → k < length items → item ≡ get_or items k item → AreBelow items levels → IsBelow item levels
 item_below items levels item k l is b = record {
@@ -189,3 +193,25 @@ top_below nest items known is = record {
   items_fit = subst (λ z. IsTrue (items_fit nest.arrays z [])) (sym is)
       (and_parts (is_some (all_numbered nest.items 0)) (items_fit nest.arrays nest.items []) (and_parts (arrays_fit nest.arrays) (is_some (all_numbered nest.items 0) && items_fit nest.arrays nest.items []) known).1).1;
 }
+
+-- the space that is made
+
+pub arrays_counted : (nest : LoopNest) (arrays : List ArrayDecl) → IsTrue (is_nest nest) → arrays ≡ nest.arrays → length arrays ≤ most_cells
+arrays_counted nest arrays known is =
+    subst (λ z. length z ≤ most_cells) (sym is)
+    (few_arrays nest.arrays (and_parts (arrays_fit nest.arrays) (is_some (all_numbered nest.items 0) && items_fit nest.arrays nest.items []) known).0)
+
+pub space_kept : (nest : LoopNest) (n : ℕ) (found : Found) (temps : List (List ℕ)) → IsTrue (is_nest nest) → items_work nest.items [] ≤ most_work → n ≡ length nest.arrays
+    → Complete nest found → temps ≡ [] → IsSpace n found.pieces found.counts temps 0
+space_kept nest n found temps known few en c et =
+    subst (λ m. IsSpace m found.pieces found.counts temps 0) (sym en)
+    (subst (λ ps. IsSpace (length nest.arrays) ps found.counts temps 0) (sym c.pieces)
+    (subst (λ ns. IsSpace (length nest.arrays) (pieces_of nest) ns temps 0) (sym c.counts)
+    (subst (λ ts. IsSpace (length nest.arrays) (pieces_of nest) (counts_of nest) ts 0) (sym et) (assembled nest known few))))
+
+pub space_is : (nest : LoopNest) (n : ℕ) (found : Found) (temps : List (List ℕ)) → IsTrue (is_nest nest) → n ≡ length nest.arrays → Complete nest found → temps ≡ []
+    → ◌≡◌ {A = Listed} (record { list = listed found.pieces; arrays = n; temps = temps; weight = 1; commands = 0 })
+    (record { list = start nest; arrays = length nest.arrays; temps = []; weight = 1; commands = 0 })
+space_is nest n found temps known en c et =
+    let e : listed found.pieces ≡ start nest = ap listed c.pieces ∙ listed_is nest known in
+    λ i. record { list = e i; arrays = en i; temps = et i; weight = 1; commands = 0 }
