@@ -87,7 +87,7 @@ pub adds_loop : (item : Item) (lows highs : List Form) (items below : List Item)
     → Adds (at_numbers 0 (map statements_of below) inside places) old new → Adds (statements_of item levels places) old new
 adds_loop item lows highs items below levels inside ls hs places old new is ei el eh e a =
     let same : at_numbers 0 (map statements_of below) inside places ≡ at_numbers 0 (map statements_of items) (levels ++ record { lows = lows; highs = highs } ∷ []) places =
-        ap₂ (λ z i. at_numbers 0 (map statements_of z) i places) ei (e ∙ ap₂ (λ x y. levels ++ record { lows = x; highs = y } ∷ []) el eh) in
+    ap₂ (λ z i. at_numbers 0 (map statements_of z) i places) ei (e ∙ ap₂ (λ x y. levels ++ record { lows = x; highs = y } ∷ []) el eh) in
     subst (λ ss. Adds ss old new) (same ∙ sym (ap (λ i. statements_of i levels places) is ∙ loop_statements lows highs items levels places)) a
 
 numbers_more : (n k : ℕ) (items : List Item) (d : Item) (levels : List Level) (places : List ℕ) → k < length items
@@ -124,7 +124,7 @@ pub adds_more : (items : List Item) (item : Item) (levels : List Level) (places 
 adds_more items item levels places here k place old now new l is ep eh a b =
     let e : place ≡ 0 + k = omega arith in
     let same : statements_of item levels here ≡ statements_of (get_or items k item) levels (places ++ (0 + k) ∷ []) =
-        ap₂ (λ i p. statements_of i levels p) is (eh ∙ ap (λ m. places ++ m ∷ []) e) in
+    ap₂ (λ i p. statements_of i levels p) is (eh ∙ ap (λ m. places ++ m ∷ []) e) in
     subst (λ ss. Adds ss old new) (sym (numbers_more 0 k items item levels places l))
     (adds_both (at_numbers 0 (map statements_of (take k items)) levels places) (statements_of (get_or items k item) levels (places ++ (0 + k) ∷ [])) old now new a
     (subst (λ ss. Adds ss now new) same b))
