@@ -10,3 +10,5 @@ pub mod PieceNumbers
 pub mod Readings
 pub mod Bodies
 pub mod Assembled
+pub mod Subscripted
+pub mod Judgings

@@ -1,6 +1,6 @@
 -- Nests that can't be run: they take too many turns, or a subscript leaves its array.
 use Rattle.std.specs.Prelude.{ℕ, suc, ◌+◌, ℤ, Bool, true, false, nat_lt, Option, Some, None, List, [], ◌∷◌, ◌++◌, length, map, take, if◌then◌else◌}
-use Rattle.std.specs.List.{concat, sum}
+use Rattle.std.specs.List.{sum}
 use Rattle.ch_nest.specs.declared.nest.Access.{Access}
 use Rattle.ch_nest.specs.declared.nest.ArrayDecl.{ArrayDecl}
 use Rattle.ch_nest.specs.declared.nest.Body.{Body}
@@ -28,8 +28,12 @@ text_accesses b = b.write ∷ reads b.right
 abbrev pub access_count : Body → ℕ
 access_count b = length (text_accesses b)
 
+abbrev pub joined : List (List Body) → List Body
+joined [] = []
+joined (bs ∷ more) = bs ++ joined more
+
 abbrev pub bodies_step : Item-F (List Body) → List Body
-bodies_step (Item-F.Loop lows highs items) = concat items
+bodies_step (Item-F.Loop lows highs items) = joined items
 bodies_step (Item-F.Assign label body) = body ∷ []
 
 abbrev pub bodies_of : Item → List Body
@@ -37,7 +41,7 @@ bodies_of = fold-Item (List Body) bodies_step
 
 -- what the statements of these items do, in the order of the text
 abbrev pub bodies : List Item → List Body
-bodies items = concat (map bodies_of items)
+bodies items = joined (map bodies_of items)
 
 -- how many accesses the statements before one have
 abbrev pub accesses_before : List Item → Label → ℕ

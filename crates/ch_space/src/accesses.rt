@@ -59,6 +59,7 @@ fn access_count(alloc: Global, body: &Body) -> Result<u32, AllocError>
 
 /// Adds the number of accesses of each statement of the items.
 #[cycle(counts)]
+#[tactic(auto, using(crate::proofs::Subscripted::counts_go_on, crate::proofs::Subscripted::counts_loop, crate::proofs::Subscripted::counts_assign))]
 fn push_counts(alloc: Global, items: &[Item], counts: &mut List<u32>) -> Result<(), AllocError>
     ensures { OnOk result (counts.new ≡ counts.old ++ map access_count (bodies items.now)) }
 {
@@ -69,6 +70,7 @@ fn push_counts(alloc: Global, items: &[Item], counts: &mut List<u32>) -> Result<
 }
 
 #[cycle(counts)]
+#[tactic(auto, using(crate::proofs::Subscripted::counts_loop, crate::proofs::Subscripted::counts_assign))]
 fn push_item_counts(alloc: Global, item: &Item, counts: &mut List<u32>) -> Result<(), AllocError>
     ensures { OnOk result (counts.new ≡ counts.old ++ map access_count (bodies_of item.now)) }
 {
@@ -78,17 +80,25 @@ fn push_item_counts(alloc: Global, item: &Item, counts: &mut List<u32>) -> Resul
     }
 }
 
-/// The sum of the first of these counts.
+fn sum_of(counts: &[u32]) -> Option<u32>
+    ensures { (total : ℕ) → result ≡ Some total → total ≡ sum counts.now }
+{
+    let mut total = 0_u32;
+    for count in counts {
+        total = total.checked_add(*count)?;
+    }
+    Some(total)
+}
+
+/// The sum of the first of these counts, or `None` where it has no room.
+#[tactic(auto, using(std::proofs::lemmas::List::take_all))]
 fn sum_before(counts: &[u32], end: usize) -> Option<u32>
     ensures { (total : ℕ) → result ≡ Some total → total ≡ sum (take end counts.now) }
 {
-    let mut total = 0_u32;
-    for k in 0..counts.len() {
-        if k < end {
-            total = total.checked_add(counts[k])?;
-        }
+    if end < counts.len() {
+        return sum_of(&counts[..end]);
     }
-    Some(total)
+    sum_of(counts)
 }
 
 /// How many accesses the statements before one have.
@@ -104,6 +114,7 @@ pub(crate) fn accesses_before(alloc: Global, items: &[Item], label: u32) -> Resu
 }
 
 /// The cell of an access at a point.
+#[tactic(auto, using(crate::proofs::Subscripted::values_go_on, crate::proofs::Subscripted::sub_at))]
 fn cell_at(
     alloc: Global,
     access: &Access,
@@ -128,6 +139,7 @@ fn cell_at(
 }
 
 /// The first access of a statement that leaves its array at a point, where its write has number `before`.
+#[tactic(auto, using(crate::proofs::Subscripted::text_fits))]
 pub(crate) fn first_leaving(
     alloc: Global,
     arrays: &[ArrayDecl],
@@ -144,6 +156,7 @@ pub(crate) fn first_leaving(
 }
 
 /// The first of these accesses that leaves its array at a point, where the first one has number `number`.
+#[tactic(auto, using(crate::proofs::Subscripted::access_at, crate::proofs::Subscripted::leaving_goes_on, crate::proofs::Subscripted::leaving_here))]
 fn leaving_from(
     alloc: Global,
     arrays: &[ArrayDecl],
