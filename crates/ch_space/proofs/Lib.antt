@@ -13,3 +13,5 @@ pub mod Assembled
 pub mod Builds
 pub mod TurnSteps
 pub mod FindSteps
+pub mod Subscripted
+pub mod Judgings

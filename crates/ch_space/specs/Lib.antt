@@ -5,3 +5,6 @@ pub mod Statements
 pub mod Built
 pub mod Members
 pub mod Fitting
+pub mod Judged
+pub mod Judging
+pub mod Judges

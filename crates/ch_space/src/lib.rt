@@ -1,8 +1,10 @@
 //! Spaces: timed lists as pieces, each the integer points of a system of affine rows.
 #![tactic(auto)]
 
+mod accesses;
 pub mod copies;
 mod error;
+mod judge;
 mod level;
 mod nest_pieces;
 mod nest_space;
@@ -12,7 +14,9 @@ mod rows;
 mod space;
 mod turns;
 
+pub use accesses::Leaving;
 pub use error::SpaceError;
+pub use judge::{judged, judgement_is_sound};
 pub use piece::Piece;
 pub use reading::{count, group, label, piece_count, pieces, places};
 pub use space::Space;
