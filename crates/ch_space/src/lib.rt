@@ -17,6 +17,7 @@ mod turns;
 pub use accesses::Leaving;
 pub use error::SpaceError;
 pub use judge::{judged, judgement_is_sound};
+pub use nest_space::of_nest;
 pub use piece::Piece;
 pub use reading::{count, group, label, piece_count, pieces, places};
 pub use space::Space;
