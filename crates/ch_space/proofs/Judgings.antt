@@ -1,7 +1,8 @@
 -- The walk that judges a nest, one step on, and what its refusal says of the nest.
-use Rattle.std.proofs.Common.{◌≡◌, refl, sym, ap, ap₂, ◌∙◌, subst, ℕ, zero, suc, ◌+◌, ◌<◌, ◌≤◌, ℤ, pos, ◌+ℤ◌, Bool, true, false, ◌&&◌, nat_le, nat_lt, if◌then◌else◌, Option, Some, None, Result, List, [], ◌∷◌, ◌++◌, length, map, drop, get_or, add-one, inl, inr, arith}
+use Rattle.std.proofs.Common.{◌≡◌, refl, sym, ap, ap₂, ◌∙◌, subst, ℕ, zero, suc, ◌+◌, ◌<◌, ◌≤◌, ℤ, pos, ◌+ℤ◌, Bool, true, false, ◌&&◌, nat_le, nat_lt, if◌then◌else◌, Option, Some, None, Result, Ok, Err, List, [], ◌∷◌, ◌++◌, length, map, drop, get_or, add-one, inl, inr, arith}
 use Rattle.std.specs.Bool.{IsTrue}
 use Rattle.std.specs.List.{list_all}
+use Rattle.std.specs.Result.{IsErrAnd}
 use Rattle.std.proofs.lemmas.Bool.{cases_lt}
 use Rattle.std.proofs.lemmas.Bool.Decides.{nat_tests}
 use Rattle.std.proofs.lemmas.List.{drop_all, drop_more}
@@ -373,3 +374,8 @@ inner_ends nest item lows highs items point inner low high k n e first walk turn
 pub assign_walked : (nest : LoopNest) (item : Item) (label : ℕ) (body : Body) (point : List ℤ) (r : Result Walk SpaceError) (walk : Walk) → item ≡ Assign label body
     → Walks r 1 (leaving nest (instance label body point)) walk → Walks r (item_work item point) (item_refusal nest item point) walk
 assign_walked nest item label body point r walk is h = rw (is, assign_work label body point, assign_refusal nest label body point) h
+
+pub err_walks : (r : Result Walk SpaceError) (e : SpaceError) (work : ℕ) (refusal : Option SpaceError) (walk : Walk) → IsErrAnd r (λ x. x ≡ e) → Ends e walk.left work
+    → Walks r work refusal walk
+err_walks (Ok w) e work refusal walk h k = absurd h
+err_walks (Err x) e work refusal walk h k = subst (λ y. Ends y walk.left work) (sym h) k
