@@ -252,11 +252,12 @@ ends_judged nest Memory h = tt
 ends_judged nest TooMany h = too_many most_work (items_work nest.items []) (first_of (leaving nest) (start nest)) h
 ends_judged nest (OutOfRange first access cell) h = absurd h
 
-pub walk_judged : (nest : LoopNest) (old new : Walk) → old ≡ record { left = most_work; found = None } → GoesOn (items_work nest.items []) (items_refusal nest nest.items []) old new
-    → judgement nest ≡ new.found
-walk_judged nest old new e g =
-    few_enough most_work (items_work nest.items []) new.left (first_of (leaving nest) (start nest)) (g.left ∙ ap (λ w. w.left) e)
-    ∙ all_listed nest ∙ sym (g.found ∙ ap (λ w. or_else w.found (items_refusal nest nest.items [])) e)
+-- what the walk through all items found, from a slice that has them
+pub walk_judged : (nest : LoopNest) (items : List Item) (new : Walk) → items ≡ nest.items
+    → GoesOn (items_work items []) (items_refusal nest items []) (record { left = most_work; found = None }) new → judgement nest ≡ new.found
+walk_judged nest items new e g =
+    let h = rw e at g in
+    few_enough most_work (items_work nest.items []) new.left (first_of (leaving nest) (start nest)) h.left ∙ all_listed nest ∙ sym h.found
 
 pub refusal_judged : (e : SpaceError) (r : Option SpaceError) → r ≡ Some e → IsRefusal e r
 refusal_judged Memory r h = tt
