@@ -107,7 +107,7 @@ sum_by_filter : (b : Bool) (s : Statement) (rest all : List Statement) → sum (
 sum_by_filter true s rest all h = omega (arith, sum_first (instances_of s) (map instances_of rest), sum_first (instances_of s) (map instances_of all))
 sum_by_filter false s rest all h = omega (arith, sum_first (instances_of s) (map instances_of all))
 
-sum_filter : (t : Statement → Bool) (ss : List Statement) → sum (map instances_of (filter t ss)) ≤ sum (map instances_of ss)
+pub sum_filter : (t : Statement → Bool) (ss : List Statement) → sum (map instances_of (filter t ss)) ≤ sum (map instances_of ss)
 sum_filter t [] = omega arith
 sum_filter t (s ∷ ss) = sum_by_filter (t s) s (filter t ss) ss (sum_filter t ss)
 
@@ -214,7 +214,7 @@ module _ (nest : LoopNest) (known : IsTrue (is_nest nest)) where
       ascending_same (λ e. e.vector) (listed (pieces_of nest)) (start nest) (ordered_ascends (λ e. e.vector) (flat_map elements (pieces_of nest))) (start_ascends nest)
       (λ e i. elements_start e (from_order (λ e. e.vector) (flat_map elements (pieces_of nest)) e i))
       (λ e i. to_order (λ e. e.vector) (flat_map elements (pieces_of nest))
-          (λ f g j k. one_of (start nest) (start_ascends nest) f g (elements_start f j) (elements_start g k)) e (start_elements e i))
+      (λ f g j k. one_of (start nest) (start_ascends nest) f g (elements_start f j) (elements_start g k)) e (start_elements e i))
 
   near_of : (e : Element) → In e (start nest) → All (IsAtMost (2 ^ 54)) e.identity.iters
   near_of e i =

@@ -81,7 +81,7 @@ module _ (arrays : List ArrayDecl) (n : ℕ) where
   right_parts = ind-Expr Fine (λ x y is.
       all_folds _ _ _ _ _ _ (fold-roll-Expr Bool (parts_fit_step arrays n) x) (fold-roll-Expr Bool (iters_below_step n) x) (fold-roll-Expr (List Access) reads_step x)
       (subst (λ z. Parts (parts_fit_step arrays n (map-Expr Expr Bool (parts_fit arrays n) z)) (iters_below_step n (map-Expr Expr Bool (iters_below n) z))
-          (reads_step (map-Expr Expr (List Access) reads z))) is (layer y)))
+      (reads_step (map-Expr Expr (List Access) reads z))) is (layer y)))
 
   pub body_accesses : (b : Body) → IsTrue (body_fits arrays n b) → Each Fits (accesses b)
   body_accesses b h =

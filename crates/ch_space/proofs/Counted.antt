@@ -187,21 +187,21 @@ turns_within : (lo : ℤ) (n : ℕ) (low high : ℤ) (c f : ℤ → ℕ) → Cov
 turns_within lo n low high c f covers same before after = by_lt_z high low
     (λ l. turns_none n lo c (λ x a b. by_lt_z x low (before x) (λ m. after x (omega (arith, ints)))) ∙ sym (ap (λ k. sum_turns k low f) (no_turns low high l)))
     (λ l.
-        let from = covers.from l in
-        let to = covers.to l in
-        let k : ℕ = count low high in
-        let top = some_turns low high l in
-        let a : ℕ = unsigned_abs (low -ℤ lo) in
-        let at : lo +ℤ pos a ≡ low = nth_is lo low from in
-        let r : ℕ = n - (a + k) in
-        let whole : n ≡ (a + k) + r = omega (arith, ints, at, top, to) in
-        let parts : sum_turns n lo c ≡ (sum_turns a lo c + sum_turns k low c) + sum_turns r (lo +ℤ pos (a + k)) c =
-        ap (λ m. sum_turns m lo c) whole ∙ turns_both (a + k) r lo c
-        ∙ ap (λ m. m + sum_turns r (lo +ℤ pos (a + k)) c) (turns_both a k lo c ∙ ap (λ z. sum_turns a lo c + sum_turns k z c) at) in
-        let first : sum_turns a lo c ≡ 0 = turns_none a lo c (λ x p q. before x (omega (arith, ints, at))) in
-        let last : sum_turns r (lo +ℤ pos (a + k)) c ≡ 0 = turns_none r (lo +ℤ pos (a + k)) c (λ x p q. after x (omega (arith, ints, at, top))) in
-        let middle : sum_turns k low c ≡ sum_turns k low f = turns_alike k low c f (λ x p q. same x p (omega (arith, ints, top))) in
-        parts ∙ omega arith)
+    let from = covers.from l in
+    let to = covers.to l in
+    let k : ℕ = count low high in
+    let top = some_turns low high l in
+    let a : ℕ = unsigned_abs (low -ℤ lo) in
+    let at : lo +ℤ pos a ≡ low = nth_is lo low from in
+    let r : ℕ = n - (a + k) in
+    let whole : n ≡ (a + k) + r = omega (arith, ints, at, top, to) in
+    let parts : sum_turns n lo c ≡ (sum_turns a lo c + sum_turns k low c) + sum_turns r (lo +ℤ pos (a + k)) c =
+    ap (λ m. sum_turns m lo c) whole ∙ turns_both (a + k) r lo c
+    ∙ ap (λ m. m + sum_turns r (lo +ℤ pos (a + k)) c) (turns_both a k lo c ∙ ap (λ z. sum_turns a lo c + sum_turns k z c) at) in
+    let first : sum_turns a lo c ≡ 0 = turns_none a lo c (λ x p q. before x (omega (arith, ints, at))) in
+    let last : sum_turns r (lo +ℤ pos (a + k)) c ≡ 0 = turns_none r (lo +ℤ pos (a + k)) c (λ x p q. after x (omega (arith, ints, at, top))) in
+    let middle : sum_turns k low c ≡ sum_turns k low f = turns_alike k low c f (λ x p q. same x p (omega (arith, ints, top))) in
+    parts ∙ omega arith)
 
 -- filtered points of a box
 
@@ -239,19 +239,19 @@ count_points t boxes (l ∷ ls) pre fit inside from to =
     let covers : Covers box.low n low high = record {
       from = λ o. (in_level_box boxes l pre low fit.0 inside (omega (arith, ints)) o).low;
       to = λ o.
-      let a = in_level_box boxes l pre high fit.0 inside o (omega (arith, ints)) in
-      let b = a.low in
-      let c = a.high in
-      let e = natural_is ((box.high +ℤ pos 1) -ℤ box.low) (omega (arith, ints)) in
-      omega (arith, ints, e);
+          let a = in_level_box boxes l pre high fit.0 inside o (omega (arith, ints)) in
+          let b = a.low in
+          let c = a.high in
+          let e = natural_is ((box.high +ℤ pos 1) -ℤ box.low) (omega (arith, ints)) in
+          omega (arith, ints, e);
     } in
     let long : (p : List ℤ) → In p (box_points inner) → length p ≡ length ls = λ p i. lies_length inner p (box_points_lie inner p i) ∙ length_boxes (boxes ++ box ∷ []) ls in
     length_flat t inner n box.low
     ∙ turns_within box.low n low high (λ x. length (filter (λ p. t (x ∷ p)) (box_points inner))) (λ x. turns_below ls (pre ++ x ∷ [])) covers
     (λ x a b.
-        let here = in_level_box boxes l pre x fit.0 inside a b in
-        count_points (λ p. t (x ∷ p)) (boxes ++ box ∷ []) ls (pre ++ x ∷ []) fit.2 (lies_push boxes box pre x inside here.low here.high)
-        (λ p k e. (from (x ∷ p) (ap suc k) e).1) (λ p m. to (x ∷ p) ((a, b), m)))
+    let here = in_level_box boxes l pre x fit.0 inside a b in
+    count_points (λ p. t (x ∷ p)) (boxes ++ box ∷ []) ls (pre ++ x ∷ []) fit.2 (lies_push boxes box pre x inside here.low here.high)
+    (λ p k e. (from (x ∷ p) (ap suc k) e).1) (λ p m. to (x ∷ p) ((a, b), m)))
     (λ x o. ap length (filter_none (λ p. t (x ∷ p)) (box_points inner) (λ p i e. let m = (from (x ∷ p) (ap suc (long p i)) e).0.0 in absurd (omega (arith, ints)))))
     (λ x o. ap length (filter_none (λ p. t (x ∷ p)) (box_points inner) (λ p i e. let m = (from (x ∷ p) (ap suc (long p i)) e).0.1 in absurd (omega (arith, ints)))))
 

@@ -180,7 +180,7 @@ module _ (nest : LoopNest) where
   pub all_freed : free (items_refusal nest nest.items []) ≡ items_inside nest.arrays nest.items []
   all_freed = each_freed nest.items (each_item Freed loop_freed assign_freed nest.items) []
 
--- the walk finds what the first element of the list has that has a refusal
+  -- the walk finds what the first element of the list has that has a refusal
 
   first_append : (xs ys : List Element) → first_of (leaving nest) (xs ++ ys) ≡ or_else (first_of (leaving nest) xs) (first_of (leaving nest) ys)
   first_append [] ys = refl

@@ -10,5 +10,8 @@ pub mod PieceNumbers
 pub mod Readings
 pub mod Bodies
 pub mod Assembled
+pub mod Builds
+pub mod TurnSteps
+pub mod FindSteps
 pub mod Subscripted
 pub mod Judgings

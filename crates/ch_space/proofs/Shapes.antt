@@ -146,7 +146,7 @@ module _ (arrays : List ArrayDecl) where
       let head = (and_parts (head_fits (length boxes) lows highs) (nat_lt 0 (length tests)) top.0).0 in
       let low = and_parts (is_small box) (all_pass tests (boxes ++ box ∷ [])) top.1 in
       let r = items_shaped ks 0 (levels ++ l ∷ []) places (levels_last [] levels l fit head low.0) (same ∙ sym (length-append levels (l ∷ [])))
-          (subst (λ b. IsTrue (all_pass tests b)) (sym (boxes_last [] levels l)) low.1) in
+      (subst (λ b. IsTrue (all_pass tests b)) (sym (boxes_last [] levels l)) low.1) in
       record { fit = r.fit; begins = each_more _ _ _ (λ s b. shorter places b.0 s b.1.1) r.begins; ascend = r.ascend }
   layer (Item-F.Assign label body) levels places fit same pass = record {
     fit = (record { levels = fit; places = same; body = subst (λ n. IsTrue (body_fits arrays n body)) (length_boxes [] levels) pass }, tt);

@@ -47,9 +47,11 @@ push pre [] l [] x b low high =
     ((subst (λ p. low_of l.lows p ≤ℤ x) (append-nil pre) low, subst (λ p. x ≤ℤ high_of l.highs p) (append-nil pre) high), tt)
 push pre [] l (y ∷ xs) x b low high = absurd b
 push pre (k ∷ ls) l [] x b low high = absurd b
-push pre (k ∷ ls) l (y ∷ xs) x b low high =
-    (b.0, push (pre ++ y ∷ []) ls l xs x b.1 (subst (λ p. low_of l.lows p ≤ℤ x) (sym (append_assoc pre (y ∷ []) xs)) low)
-    (subst (λ p. x ≤ℤ high_of l.highs p) (sym (append_assoc pre (y ∷ []) xs)) high))
+push pre (k ∷ ls) l (y ∷ xs) x b low high = (
+  b.0,
+  push (pre ++ y ∷ []) ls l xs x b.1 (subst (λ p. low_of l.lows p ≤ℤ x) (sym (append_assoc pre (y ∷ []) xs)) low)
+      (subst (λ p. x ≤ℤ high_of l.highs p) (sym (append_assoc pre (y ∷ []) xs)) high),
+)
 
 pub length_between : (pre : List ℤ) (ls : List Level) (xs : List ℤ) → Between pre ls xs → length xs ≡ length ls
 length_between pre [] [] b = refl

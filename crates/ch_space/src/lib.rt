@@ -10,6 +10,8 @@ mod judge_tests;
 mod level;
 mod nest_pieces;
 mod nest_space;
+#[cfg(test)]
+mod nest_space_tests;
 mod piece;
 mod reading;
 mod rows;
@@ -19,6 +21,7 @@ mod turns;
 pub use accesses::Leaving;
 pub use error::SpaceError;
 pub use judge::{judged, judgement_is_sound};
+pub use nest_space::of_nest;
 pub use piece::Piece;
 pub use reading::{count, group, label, piece_count, pieces, places};
 pub use space::Space;

@@ -55,6 +55,7 @@ fn piece_of(
 }
 
 /// Adds the piece of a statement, if the statement is executed at all.
+#[tactic(auto, using(crate::proofs::FindSteps::adds_never, crate::proofs::FindSteps::adds_one))]
 fn add_statement(
     alloc: Global,
     label: u32,
@@ -79,6 +80,7 @@ fn add_statement(
 
 /// Adds the pieces of the statements of the items of a body.
 #[cycle(find)]
+#[tactic(auto, using(crate::proofs::FindSteps::adds_none))]
 pub(crate) fn find_items(
     alloc: Global,
     items: &[Item],
@@ -101,6 +103,7 @@ pub(crate) fn find_items(
 }
 
 #[cycle(find)]
+#[tactic(auto, using(crate::proofs::FindSteps::adds_assign, crate::proofs::FindSteps::adds_loop))]
 fn find_item(
     alloc: Global,
     item: &Item,
