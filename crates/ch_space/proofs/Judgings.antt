@@ -1,7 +1,8 @@
 -- The walk that judges a nest, one step on, and what its refusal says of the nest.
-use Rattle.std.proofs.Common.{◌≡◌, refl, sym, ap, ap₂, ◌∙◌, subst, ℕ, zero, suc, ◌+◌, ◌<◌, ◌≤◌, ℤ, pos, ◌+ℤ◌, Bool, true, false, ◌&&◌, nat_le, nat_lt, if◌then◌else◌, Option, Some, None, Result, List, [], ◌∷◌, ◌++◌, length, map, drop, get_or, add-one, inl, inr, arith}
+use Rattle.std.proofs.Common.{◌≡◌, refl, sym, ap, ap₂, ◌∙◌, subst, ℕ, zero, suc, ◌+◌, ◌<◌, ◌≤◌, ℤ, pos, ◌+ℤ◌, Bool, true, false, ◌&&◌, nat_le, nat_lt, if◌then◌else◌, Option, Some, None, Result, Ok, Err, List, [], ◌∷◌, ◌++◌, length, map, drop, get_or, add-one, inl, inr, arith}
 use Rattle.std.specs.Bool.{IsTrue}
 use Rattle.std.specs.List.{list_all}
+use Rattle.std.specs.Result.{IsErrAnd}
 use Rattle.std.proofs.lemmas.Bool.{cases_lt}
 use Rattle.std.proofs.lemmas.Bool.Decides.{nat_tests}
 use Rattle.std.proofs.lemmas.List.{drop_all, drop_more}
@@ -251,11 +252,12 @@ ends_judged nest Memory h = tt
 ends_judged nest TooMany h = too_many most_work (items_work nest.items []) (first_of (leaving nest) (start nest)) h
 ends_judged nest (OutOfRange first access cell) h = absurd h
 
-pub walk_judged : (nest : LoopNest) (old new : Walk) → old ≡ record { left = most_work; found = None } → GoesOn (items_work nest.items []) (items_refusal nest nest.items []) old new
-    → judgement nest ≡ new.found
-walk_judged nest old new e g =
-    few_enough most_work (items_work nest.items []) new.left (first_of (leaving nest) (start nest)) (g.left ∙ ap (λ w. w.left) e)
-    ∙ all_listed nest ∙ sym (g.found ∙ ap (λ w. or_else w.found (items_refusal nest nest.items [])) e)
+-- what the walk through all items found, from a slice that has them
+pub walk_judged : (nest : LoopNest) (items : List Item) (new : Walk) → items ≡ nest.items
+    → GoesOn (items_work items []) (items_refusal nest items []) (record { left = most_work; found = None }) new → judgement nest ≡ new.found
+walk_judged nest items new e g =
+    let h = rw e at g in
+    few_enough most_work (items_work nest.items []) new.left (first_of (leaving nest) (start nest)) h.left ∙ all_listed nest ∙ sym h.found
 
 pub refusal_judged : (e : SpaceError) (r : Option SpaceError) → r ≡ Some e → IsRefusal e r
 refusal_judged Memory r h = tt
@@ -373,3 +375,8 @@ inner_ends nest item lows highs items point inner low high k n e first walk turn
 pub assign_walked : (nest : LoopNest) (item : Item) (label : ℕ) (body : Body) (point : List ℤ) (r : Result Walk SpaceError) (walk : Walk) → item ≡ Assign label body
     → Walks r 1 (leaving nest (instance label body point)) walk → Walks r (item_work item point) (item_refusal nest item point) walk
 assign_walked nest item label body point r walk is h = rw (is, assign_work label body point, assign_refusal nest label body point) h
+
+pub err_walks : (r : Result Walk SpaceError) (e : SpaceError) (work : ℕ) (refusal : Option SpaceError) (walk : Walk) → IsErrAnd r (λ x. x ≡ e) → Ends e walk.left work
+    → Walks r work refusal walk
+err_walks (Ok w) e work refusal walk h k = absurd h
+err_walks (Err x) e work refusal walk h k = subst (λ y. Ends y walk.left work) (sym h) k

@@ -31,6 +31,7 @@ pub(crate) struct Walk {
 }
 
 /// The refusal of a statement at a point, where one of its accesses leaves its array. Memory is taken only there.
+#[tactic(auto, using(crate::proofs::Judgings::inside_is_free))]
 fn instance_refusal(
     alloc: Global,
     nest: &Nest,

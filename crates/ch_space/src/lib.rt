@@ -5,6 +5,8 @@ mod accesses;
 pub mod copies;
 mod error;
 mod judge;
+#[cfg(test)]
+mod judge_tests;
 mod level;
 mod nest_pieces;
 mod nest_space;
