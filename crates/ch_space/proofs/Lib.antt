@@ -4,3 +4,5 @@ pub mod PieceNumbers
 pub mod Readings
 pub mod Turning
 pub mod EndsOf
+pub mod NextPlaces
+pub mod ClosedPieces

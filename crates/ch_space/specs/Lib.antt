@@ -3,3 +3,4 @@ pub mod Pieces
 pub mod Keeps
 pub mod Members
 pub mod Turned
+pub mod Renumbered

@@ -1,6 +1,7 @@
 //! Spaces: timed lists as pieces, each the integer points of a system of affine rows.
 #![tactic(auto)]
 
+mod closing;
 pub mod copies;
 mod error;
 mod extremes;
@@ -8,6 +9,7 @@ mod piece;
 mod reading;
 mod space;
 
+pub use closing::close_up;
 pub use error::SpaceError;
 pub use extremes::ends;
 pub use piece::Piece;
