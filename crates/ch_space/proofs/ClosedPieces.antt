@@ -1,5 +1,5 @@
 -- Pieces at the ranks of their places stand for the list with its places closed up.
-use Rattle.std.proofs.Common.{◌≡◌, ◌≢◌, refl, sym, ap, ap₂, ◌∙◌, subst, ℕ, zero, suc, ◌+◌, ◌<◌, ◌≤◌, ◌^◌, ◌*◌, ℤ, pos, Bool, true, false, IsTrue, List, [], ◌∷◌, ◌++◌, map, length, take, drop, get_or, ◌⊎◌, inl, inr, arith}
+use Rattle.std.proofs.Common.{◌≡◌, ◌≢◌, refl, sym, ap, ap₂, ◌∙◌, subst, ℕ, zero, suc, ◌+◌, ◌<◌, ◌≤◌, ◌^◌, ◌*◌, ℤ, pos, Bool, true, false, IsTrue, List, [], ◌∷◌, ◌++◌, map, length, take, drop, get_or, set, ◌⊎◌, inl, inr, length-append, arith}
 use Rattle.std.specs.List.{All, flat_map, sum}
 use Rattle.std.specs.Ordering.{int_cmp}
 use Rattle.std.specs.declared.cmp.Ordering.TheVariants.{Less}
@@ -19,19 +19,12 @@ use Rattle.ch_timed.proofs.Orders.{retimed, map_in, in_map}
 use Rattle.ch_space.specs.declared.piece.Piece.{Piece}
 use Rattle.ch_space.specs.Pieces.{element_at, instances, elements, listed}
 use Rattle.ch_space.specs.Keeps.{IsWhole, places_of, AllLater, AreApart, IsSpace, IsBody, IsMoveBelow, accesses, most_instances}
-use Rattle.ch_space.specs.Renumbered.{placed, all_placed}
+use Rattle.ch_space.specs.Renumbered.{placed, all_placed, AreRanks}
 use Rattle.ch_space.proofs.Membership.{in_append, append_left, append_right, in_flat, flat_in}
 use Rattle.ch_space.proofs.PieceElements.{one_each, whole_in, element_places, element_values, length_pos, StandsFor, in_stands}
 use Rattle.ch_space.proofs.PieceNumbers.{numbered, in_listed, listed_in, nth_in, all_in}
 use Rattle.ch_space.proofs.EndsOf.{at_all}
 use Rattle.ch_space.proofs.NextPlaces.{ranks_long}
-
--- the new places are the ranks of the old ones
-abbrev pub AreRanks : List (List ℤ) → List Piece → List (List ℕ) → Type 0
-AreRanks all [] [] = Unit {0}
-AreRanks all [] (c ∷ cs) = ⊥
-AreRanks all (p ∷ ps) [] = ⊥
-AreRanks all (p ∷ ps) (c ∷ cs) = (map pos c ≡ ranks all [] (places_of p)) × AreRanks all ps cs
 
 -- the change takes the elements of p to those of q
 record Moves (g : Element → Element) (p q : Piece) : Type 0 where
@@ -82,9 +75,10 @@ later_placed : (all : List (List ℤ)) (p : Piece) (c : List ℕ) (qs : List Pie
     → ((q : Piece) → In q qs → In (places_of q) all) → AreRanks all qs ds → AllLater (places_of p) qs → AllLater (map pos c) (all_placed qs ds)
 later_placed all p c [] ds e i j r l = tt
 later_placed all p c (q ∷ qs) [] e i j r l = absurd r
-later_placed all p c (q ∷ qs) (d ∷ ds) e i j r l =
-    (ap₂ (slice_cmp int_cmp) e r.0 ∙ ranks_less all [] (places_of p) (places_of q) i (j q (inl refl)) l.0,
-     later_placed all p c qs ds e i (λ q k. j q (inr k)) r.1 l.1)
+later_placed all p c (q ∷ qs) (d ∷ ds) e i j r l = (
+  ap₂ (slice_cmp int_cmp) e r.0 ∙ ranks_less all [] (places_of p) (places_of q) i (j q (inl refl)) l.0,
+  later_placed all p c qs ds e i (λ q k. j q (inr k)) r.1 l.1,
+)
 
 pub apart_placed : (all : List (List ℤ)) (ps : List Piece) (cs : List (List ℕ)) → ((q : Piece) → In q ps → In (places_of q) all) → AreRanks all ps cs → AreApart ps → AreApart (all_placed ps cs)
 apart_placed all [] cs j r a = tt
@@ -146,19 +140,19 @@ near_placed : (ps : List Piece) (cs : List (List ℕ)) → AreApart ps → All I
 near_placed ps cs a n =
     all_in IsNearby (listed (all_placed ps cs))
     (λ e i.
-        let s = in_listed (all_placed ps cs) e i in
-        let o = old_member ps cs s.piece s.is_piece in
-        subst IsNearby s.is
-        (elim o.1.1.1 as (λ _. IsNearby (element_at s.piece s.instance)) [
-          | inl f ↦
-              let j = subst (λ z. In s.instance (instances z)) f s.is_instance in
-              subst (λ z. IsNearby (element_at z s.instance)) (sym f)
-              (at_all IsNearby (listed ps) (element_at o.0 s.instance) n (listed_in ps o.0 (element_at o.0 s.instance) a o.1.0 (map_in (element_at o.0) (instances o.0) s.instance j)))
-          | inr f ↦
-              let j = subst (λ z. In s.instance (instances z)) f s.is_instance in
-              subst (λ z. IsNearby (element_at z s.instance)) (sym f)
-              (at_all IsNearby (listed ps) (element_at o.0 s.instance) n (listed_in ps o.0 (element_at o.0 s.instance) a o.1.0 (map_in (element_at o.0) (instances o.0) s.instance j)))
-        ]))
+    let s = in_listed (all_placed ps cs) e i in
+    let o = old_member ps cs s.piece s.is_piece in
+    subst IsNearby s.is
+    (elim o.1.1.1 as (λ _. IsNearby (element_at s.piece s.instance)) [
+      | inl f ↦
+          let j = subst (λ z. In s.instance (instances z)) f s.is_instance in
+          subst (λ z. IsNearby (element_at z s.instance)) (sym f)
+          (at_all IsNearby (listed ps) (element_at o.0 s.instance) n (listed_in ps o.0 (element_at o.0 s.instance) a o.1.0 (map_in (element_at o.0) (instances o.0) s.instance j)))
+      | inr f ↦
+          let j = subst (λ z. In s.instance (instances z)) f s.is_instance in
+          subst (λ z. IsNearby (element_at z s.instance)) (sym f)
+          (at_all IsNearby (listed ps) (element_at o.0 s.instance) n (listed_in ps o.0 (element_at o.0 s.instance) a o.1.0 (map_in (element_at o.0) (instances o.0) s.instance j)))
+    ]))
 
 pub space_closed : (arrays commands : ℕ) (ps : List Piece) (counts : List ℕ) (temps : List (List ℕ)) (cs : List (List ℕ)) → AreRanks (map places_of ps) ps cs → IsSpace arrays ps counts temps commands
     → IsSpace arrays (all_placed ps cs) counts temps commands
@@ -173,3 +167,23 @@ space_closed arrays commands ps counts temps cs r s = record {
   moves = all_by (λ p. IsMoveBelow (256 * commands) p.label) (λ p c h. h) ps cs s.moves;
   near = near_placed ps cs s.apart s.near;
 }
+
+-- Pieces placed from the last on.
+
+none_placed : (ps : List Piece) → all_placed ps [] ≡ ps
+none_placed [] = refl
+none_placed (p ∷ ps) = refl
+
+place_last : (ps : List Piece) (cs : List (List ℕ)) (c : List ℕ) (d : Piece) → length cs < length ps → all_placed ps (cs ++ c ∷ []) ≡ all_placed (set ps (length cs) (placed (get_or ps (length cs) d) c)) cs
+place_last [] cs c d h = absurd (omega arith)
+place_last (p ∷ ps) [] c d h = ap (λ t. placed p c ∷ t) (none_placed ps)
+place_last (p ∷ ps) (b ∷ cs) c d h = ap (λ t. placed p b ∷ t) (place_last ps cs c d (omega arith))
+
+pub all_placed_now : (ps first : List Piece) (cs all : List (List ℕ)) → cs ≡ [] → all_placed ps cs ≡ all_placed first all → ps ≡ all_placed first all
+all_placed_now ps first cs all e h = sym (none_placed ps) ∙ ap (all_placed ps) (sym e) ∙ h
+
+pub one_placed : (ps new first : List Piece) (old cs all : List (List ℕ)) (c : List ℕ) (n : ℕ) (d : Piece) → length old ≤ length ps → all_placed ps old ≡ all_placed first all → old ≡ cs ++ c ∷ [] → n ≡ length cs
+    → new ≡ set ps n (placed (get_or ps n d) c) → all_placed new cs ≡ all_placed first all
+one_placed ps new first old cs all c n d l h o e w =
+    let m : length cs + 1 ≡ length old = simp length-append at (sym (ap length o)) in
+    ap (λ z. all_placed z cs) (w ∙ ap (λ k. set ps k (placed (get_or ps k d) c)) e) ∙ sym (place_last ps cs c d (omega arith)) ∙ ap (all_placed ps) (sym o) ∙ h

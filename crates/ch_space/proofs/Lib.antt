@@ -6,3 +6,4 @@ pub mod Turning
 pub mod EndsOf
 pub mod NextPlaces
 pub mod ClosedPieces
+pub mod PlacesInOrder

@@ -1,5 +1,5 @@
 -- In a list of places in order, the ranks of the next follow from those before.
-use Rattle.std.proofs.Common.{◌≡◌, refl, sym, ap, ap₂, ◌∙◌, subst, ℕ, zero, suc, ◌+◌, ◌<◌, ◌≤◌, ℤ, pos, ◌<ℤ◌, Bool, true, false, ◌&&◌, if◌then◌else◌, nat_eq, nat_lt, List, [], ◌∷◌, ◌++◌, map, length, take, drop, slice_index_or, get_or, ◌⊎◌, inl, inr, arith, append_assoc}
+use Rattle.std.proofs.Common.{◌≡◌, refl, sym, ap, ap₂, ◌∙◌, subst, ℕ, zero, suc, ◌+◌, ◌<◌, ◌≤◌, ℤ, pos, ◌<ℤ◌, Bool, true, false, ◌&&◌, if◌then◌else◌, nat_eq, nat_lt, List, [], ◌∷◌, ◌++◌, map, length, take, drop, slice_index_or, get_or, ◌⊎◌, inl, inr, arith, append_assoc, append-nil, drop-cons, add-one}
 use Rattle.std.specs.List.{All}
 use Rattle.std.specs.Ordering.{int_cmp, int_eq, ordering_then, is_eq, MatchOrdering}
 use Rattle.std.specs.declared.cmp.Ordering.{Ordering}
@@ -7,6 +7,7 @@ use Rattle.std.specs.declared.cmp.Ordering.TheVariants.{Less, Equal, Greater}
 use Rattle.std.specs.Cmp.{tied_itself, int_cmp_total, int_ranked}
 use Rattle.std.specs.Cmp.Lexicographic.{slice_cmp, lists_total}
 use Rattle.std.proofs.lemmas.Int.{ints}
+use Rattle.std.proofs.lemmas.List.{drop_all}
 use Rattle.std.proofs.lemmas.Bool.Decides.{nat_tests}
 use Rattle.std.proofs.lemmas.List.Elements.{All-cons, All-nil}
 use Rattle.ch_timed.specs.Members.{In}
@@ -31,7 +32,7 @@ if_in false z x ys i = inr i
 put_by_in : (t : Bool) (z x y : ℤ) (ys rest : List ℤ) → (In z rest → (x ≡ z) ⊎ In z ys) → In z (if t then y ∷ ys else y ∷ rest) → (x ≡ z) ⊎ In z (y ∷ ys)
 put_by_in true z x y ys rest h i = inr i
 put_by_in false z x y ys rest h (inl k) = inr (inl k)
-put_by_in false z x y ys rest h (inr i) = elim (h i) [ | inl k ↦ inl k | inr j ↦ inr (inr j) ]
+put_by_in false z x y ys rest h (inr i) = elim (h i) [ inl k ↦ inl k | inr j ↦ inr (inr j) ]
 
 in_put : (z x : ℤ) (ys : List ℤ) → In z (put_number x ys) → (x ≡ z) ⊎ In z ys
 in_put z x [] i = i
@@ -74,7 +75,7 @@ eq_true x y h e = grind (arith, ints)
 
 put_by_differ : (t : Bool) (x y : ℤ) (ys : List ℤ) → int_eq x y ≡ t → Differ (y ∷ ys) → Differ (put_number x ys) → Differ (if t then y ∷ ys else y ∷ put_number x ys)
 put_by_differ true x y ys e d h = d
-put_by_differ false x y ys e d h = ((λ z i k. elim (in_put z x ys i) as (λ _. ⊥) [ | inl l ↦ eq_true x y e (l ∙ sym k) | inr j ↦ d.0 z j k ]), h)
+put_by_differ false x y ys e d h = ((λ z i k. elim (in_put z x ys i) as (λ _. ⊥) [ inl l ↦ eq_true x y e (l ∙ sym k) | inr j ↦ d.0 z j k ]), h)
 
 put_differ : (x : ℤ) (ys : List ℤ) → Differ ys → Differ (put_number x ys)
 put_differ x [] d = ((λ z i e. i), tt)
@@ -174,15 +175,15 @@ ranks_next all front (u ∷ us) (c ∷ cs) (v ∷ vs) e i j l n =
   where
     by : (o : Ordering) → MatchOrdering o (pos u <ℤ pos v) (pos u ≡ pos v) (pos v <ℤ pos u) → ordering_then o (slice_cmp int_cmp (map pos us) (map pos vs)) ≡ Less
         → (map pos cs ≡ ranks all (front ++ pos u ∷ []) (map pos us) → In ((front ++ pos u ∷ []) ++ map pos us) all → In ((front ++ pos u ∷ []) ++ map pos vs) all
-          → Comes (map pos us) (map pos vs) → Neighbours all (front ++ pos u ∷ []) (map pos us) (map pos vs) → ranks all (front ++ pos u ∷ []) (map pos vs) ≡ map pos (next_places us cs vs))
+        → Comes (map pos us) (map pos vs) → Neighbours all (front ++ pos u ∷ []) (map pos us) (map pos vs) → ranks all (front ++ pos u ∷ []) (map pos vs) ≡ map pos (next_places us cs vs))
         → ranks all front (map pos (v ∷ vs)) ≡ map pos (next_places (u ∷ us) (c ∷ cs) (v ∷ vs))
     by Less m k again =
         let f : nat_eq u v ≡ false = less_nat u v m in
         let h : below (pos u) (follows front all) ≡ c = cc in
         let one = next_below (pos u) (pos v) (follows front all) (follows_differ front all) (in_follows front (pos u) (map pos us) all i) m
-            (λ y k a b. let r = follows_has front y all k in n (y ∷ r.0) r.1 (less_comes (pos u) y (map pos us) r.0 a) (less_comes y (pos v) r.0 (map pos vs) b)) in
+        (λ y k a b. let r = follows_has front y all k in n (y ∷ r.0) r.1 (less_comes (pos u) y (map pos us) r.0 a) (less_comes y (pos v) r.0 (map pos vs) b)) in
         let rest = ranks_first all (front ++ pos v ∷ []) vs
-            (λ y rest k l. n (pos v ∷ y ∷ rest) (longer front (pos v) (y ∷ rest) all k) (less_comes (pos u) (pos v) (map pos us) (y ∷ rest) m) (cons_comes (pos v) (y ∷ rest) (map pos vs) l)) in
+        (λ y rest k l. n (pos v ∷ y ∷ rest) (longer front (pos v) (y ∷ rest) all k) (less_comes (pos u) (pos v) (map pos us) (y ∷ rest) m) (cons_comes (pos v) (y ∷ rest) (map pos vs) l)) in
         ap₂ (λ k t. pos k ∷ t) (one ∙ ap (λ k. k + 1) h) rest ∙ ap (λ t. map pos (next_by t c vs (next_places us cs vs))) (sym f)
     by Equal m k again =
         let f : nat_eq u v ≡ true = equal_nat u v m in
@@ -190,10 +191,10 @@ ranks_next all front (u ∷ us) (c ∷ cs) (v ∷ vs) e i j l n =
         let inner : map pos cs ≡ ranks all (front ++ pos u ∷ []) (map pos us) = cc in
         let here : In ((front ++ pos u ∷ []) ++ map pos us) all = subst (λ w. In w all) (sym (append_assoc front (pos u ∷ []) (map pos us))) i in
         let there : In ((front ++ pos u ∷ []) ++ map pos vs) all =
-            subst (λ w. In w all) (sym (append_assoc front (pos u ∷ []) (map pos vs))) (subst (λ z. In (front ++ z ∷ map pos vs) all) (sym m) j) in
+        subst (λ w. In w all) (sym (append_assoc front (pos u ∷ []) (map pos vs))) (subst (λ z. In (front ++ z ∷ map pos vs) all) (sym m) j) in
         let rest = again inner here there k
-            (λ rest k a b. n (pos u ∷ rest) (longer front (pos u) rest all k) (cons_comes (pos u) (map pos us) rest a)
-              (subst (λ z. Comes (pos u ∷ rest) (z ∷ map pos vs)) m (cons_comes (pos u) rest (map pos vs) b))) in
+        (λ rest k a b. n (pos u ∷ rest) (longer front (pos u) rest all k) (cons_comes (pos u) (map pos us) rest a)
+        (subst (λ z. Comes (pos u ∷ rest) (z ∷ map pos vs)) m (cons_comes (pos u) rest (map pos vs) b))) in
         subst (λ z. pos (below z (follows front all)) ∷ ranks all (front ++ z ∷ []) (map pos vs) ≡ pos c ∷ map pos (next_places us cs vs)) m (ap₂ (λ k t. pos k ∷ t) h rest)
         ∙ ap (λ t. map pos (next_by t c vs (next_places us cs vs))) (sym f)
     by Greater m k again = cc
@@ -240,3 +241,60 @@ ranks_most all front (p ∷ ps) (c ∷ cs) e =
     let m = below_most p (follows front all) in
     let n = follows_most front all in
     All-cons (λ c. c ≤ length all) c cs (omega arith) (ranks_most all (front ++ p ∷ []) ps cs t)
+
+-- Number by number.
+
+none_left : (us cs : List ℕ) → next_places us cs [] ≡ []
+none_left [] cs = refl
+none_left (u ∷ us) [] = refl
+none_left (u ∷ us) (c ∷ cs) = refl
+
+pub all_numbers : (k : ℕ) (before closed places numbers like : List ℕ) → length places ≤ k
+    → next_places before closed places ≡ numbers ++ next_places (drop k like) (drop k closed) (drop k places) → numbers ≡ next_places before closed places
+all_numbers k before closed places numbers like h e =
+    sym (append-nil numbers) ∙ ap (λ t. numbers ++ t) (sym (ap (next_places (drop k like) (drop k closed)) (drop_all k places h) ∙ none_left (drop k like) (drop k closed))) ∙ sym e
+
+one_more : (numbers : List ℕ) (n : ℕ) (rest : List ℕ) → numbers ++ n ∷ rest ≡ (numbers ++ n ∷ []) ++ rest
+one_more numbers n rest = sym (append_assoc numbers (n ∷ []) rest)
+
+cut : (k : ℕ) (xs : List ℕ) → k < length xs → drop k xs ≡ get_or xs k 0 ∷ drop (k + 1) xs
+cut k xs h = drop-cons xs k 0 h ∙ ap (λ n. get_or xs k 0 ∷ drop n xs) (sym (add-one k))
+
+pub numbers_zero : (k : ℕ) (total numbers new like closed places : List ℕ) → length like ≤ k → k < length places
+    → total ≡ numbers ++ next_places (drop k like) (drop k closed) (drop k places) → new ≡ numbers ++ 0 ∷ []
+    → total ≡ new ++ next_places (drop (k + 1) like) (drop (k + 1) closed) (drop (k + 1) places)
+numbers_zero k total numbers new like closed places h l e n =
+    e ∙ ap (λ t. numbers ++ t)
+    (ap₂ (λ us vs. next_places us (drop k closed) vs) (drop_all k like h) (cut k places l))
+    ∙ one_more numbers 0 (zeros (drop (k + 1) places))
+    ∙ ap₂ (λ f us. f ++ next_places us (drop (k + 1) closed) (drop (k + 1) places)) (sym n) (sym (drop_all (k + 1) like (omega arith)))
+
+cut_all : (k : ℕ) (like closed places : List ℕ) → k < length like → k < length closed → k < length places
+    → next_places (drop k like) (drop k closed) (drop k places)
+    ≡ next_by (nat_eq (get_or like k 0) (get_or places k 0)) (get_or closed k 0) (drop (k + 1) places) (next_places (drop (k + 1) like) (drop (k + 1) closed) (drop (k + 1) places))
+cut_all k like closed places a b c =
+    ap₂ (λ us cs. next_places us cs (drop k places)) (cut k like a) (cut k closed b)
+    ∙ ap (next_places (get_or like k 0 ∷ drop (k + 1) like) (get_or closed k 0 ∷ drop (k + 1) closed)) (cut k places c)
+
+pub numbers_same : (k : ℕ) (total numbers new like closed places : List ℕ) → k < length like → k < length closed → k < length places → get_or like k 0 ≡ get_or places k 0
+    → total ≡ numbers ++ next_places (drop k like) (drop k closed) (drop k places) → new ≡ numbers ++ get_or closed k 0 ∷ []
+    → total ≡ new ++ next_places (drop (k + 1) like) (drop (k + 1) closed) (drop (k + 1) places)
+numbers_same k total numbers new like closed places a b c s e n =
+    let rest = next_places (drop (k + 1) like) (drop (k + 1) closed) (drop (k + 1) places) in
+    let yes : nat_eq (get_or like k 0) (get_or places k 0) ≡ true = grind (arith, nat_tests) in
+    e ∙ ap (λ t. numbers ++ t) (cut_all k like closed places a b c ∙ ap (λ t. next_by t (get_or closed k 0) (drop (k + 1) places) rest) yes)
+    ∙ one_more numbers (get_or closed k 0) rest ∙ ap (λ f. f ++ rest) (sym n)
+
+pub numbers_next : (k : ℕ) (total numbers new like closed places : List ℕ) → k < length like → k < length closed → k < length places → (get_or like k 0 ≡ get_or places k 0 → ⊥)
+    → total ≡ numbers ++ next_places (drop k like) (drop k closed) (drop k places) → new ≡ numbers ++ (get_or closed k 0 + 1) ∷ []
+    → total ≡ new ++ next_places (drop (k + 1) []) (drop (k + 1) closed) (drop (k + 1) places)
+numbers_next k total numbers new like closed places a b c s e n =
+    let rest = next_places (drop (k + 1) like) (drop (k + 1) closed) (drop (k + 1) places) in
+    let no : nat_eq (get_or like k 0) (get_or places k 0) ≡ false = grind (arith, nat_tests) in
+    e ∙ ap (λ t. numbers ++ t) (cut_all k like closed places a b c ∙ ap (λ t. next_by t (get_or closed k 0) (drop (k + 1) places) rest) no)
+    ∙ one_more numbers (get_or closed k 0 + 1) (zeros (drop (k + 1) places))
+    ∙ ap₂ (λ f us. f ++ next_places us (drop (k + 1) closed) (drop (k + 1) places)) (sym n) (sym (drop_all (k + 1) [] (omega arith)))
+
+pub at_like : (k : ℕ) (total new like' like closed places : List ℕ) → like' ≡ like → total ≡ new ++ next_places (drop (k + 1) like) (drop (k + 1) closed) (drop (k + 1) places)
+    → total ≡ new ++ next_places (drop (k + 1) like') (drop (k + 1) closed) (drop (k + 1) places)
+at_like k total new like' like closed places s h = subst (λ z. total ≡ new ++ next_places (drop (k + 1) z) (drop (k + 1) closed) (drop (k + 1) places)) (sym s) h

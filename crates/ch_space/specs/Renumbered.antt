@@ -1,6 +1,8 @@
 -- Places closed up piece by piece, in order: from the places before, old and closed up, follow the next ones.
-use Rattle.std.specs.Prelude.{ℕ, ◌+◌, Bool, true, false, nat_eq, List, [], ◌∷◌}
+use Rattle.std.specs.Prelude.{◌≡◌, ℕ, ◌+◌, ℤ, pos, Bool, true, false, nat_eq, List, [], ◌∷◌, map}
 use Rattle.ch_space.specs.declared.piece.Piece.{Piece}
+use Rattle.ch_space.specs.Keeps.{places_of}
+use Rattle.ch_timed.specs.Closed.{ranks}
 
 abbrev pub zeros : List ℕ → List ℕ
 zeros [] = []
@@ -27,7 +29,9 @@ all_placed [] new = []
 all_placed (p ∷ ps) [] = p ∷ ps
 all_placed (p ∷ ps) (places ∷ new) = placed p places ∷ all_placed ps new
 
--- the numbers of the places that are left: all zeros, once one has differed
-abbrev pub numbers_left : Bool → List ℕ → List ℕ → List ℕ → List ℕ
-numbers_left true before closed places = next_places before closed places
-numbers_left false before closed places = zeros places
+-- these are the ranks of the places of the pieces, among all
+abbrev pub AreRanks : List (List ℤ) → List Piece → List (List ℕ) → Type 0
+AreRanks all [] [] = Unit {0}
+AreRanks all [] (c ∷ cs) = ⊥
+AreRanks all (p ∷ ps) [] = ⊥
+AreRanks all (p ∷ ps) (c ∷ cs) = (map pos c ≡ ranks all [] (places_of p)) × AreRanks all ps cs

@@ -4,8 +4,7 @@ ghost use Rattle.std.specs.Prelude.{◌≡◌, ◌<◌, ◌≤◌, List, [], len
 ghost use Rattle.std.specs.List.{All};
 ghost use Rattle.ch_timed.specs.Closed.{closed_up};
 ghost use Rattle.ch_space.specs.Keeps.{AreApart, places_of};
-ghost use Rattle.ch_space.specs.Renumbered.{all_placed, next_places};
-ghost use Rattle.ch_space.proofs.ClosedPieces.{AreRanks};
+ghost use Rattle.ch_space.specs.Renumbered.{AreRanks, all_placed, next_places};
 
 use crate::piece::Piece;
 use crate::space::Space;
@@ -40,7 +39,12 @@ fn closed_places(alloc: Global, pieces: &[Piece]) -> Result<List<List<u32>>, All
             numbers_after(alloc, &[], &[], places)?
         } else {
             let before: &List<u32> = &closed.as_slice()[k - 1];
-            numbers_after(alloc, pieces[k - 1].places.as_slice(), before.as_slice(), places)?
+            numbers_after(
+                alloc,
+                pieces[k - 1].places.as_slice(),
+                before.as_slice(),
+                places,
+            )?
         };
         closed.push(next)?;
     }
@@ -59,15 +63,16 @@ fn numbers_after(
     ensures { IfOk result (λ numbers. numbers ≡ next_places before.now closed.now places.now) }
 {
     let mut numbers = List::with_capacity(alloc, places.len())?;
-    let mut same = true;
+    // The places before, none of them once one has differed.
+    let mut like: &[u32] = before;
     for k in 0..places.len() {
-        if !same || before.len() <= k {
+        if like.len() <= k {
             numbers.push(0)?;
-        } else if before[k] == places[k] {
+        } else if like[k] == places[k] {
             numbers.push(closed[k])?;
         } else {
             numbers.push(closed[k] + 1)?;
-            same = false;
+            like = &[];
         }
     }
     Ok(numbers)
