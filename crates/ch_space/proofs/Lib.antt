@@ -16,3 +16,8 @@ pub mod FindSteps
 pub mod Subscripted
 pub mod Judgings
 pub mod Short
+pub mod Turning
+pub mod EndsOf
+pub mod NextPlaces
+pub mod ClosedPieces
+pub mod PlacesInOrder
