@@ -1,11 +1,11 @@
 -- The pieces of a nest, found item by item.
-use Rattle.std.proofs.Common.{◌≡◌, refl, sym, ap, ap₂, ◌∙◌, subst, ℕ, zero, suc, ◌+◌, ◌-◌, ◌^◌, ◌<◌, ◌≤◌, min, Bool, true, false, cond, ◌&&◌, nat_le, nat_lt, List, [], ◌∷◌, ◌++◌, length, map, take, drop, get_or, arith, append_assoc, append-nil}
+use Rattle.std.proofs.Common.{◌≡◌, refl, sym, ap, ap₂, ◌∙◌, subst, ℕ, zero, suc, ◌+◌, ◌^◌, ◌<◌, ◌≤◌, Bool, true, false, cond, ◌&&◌, nat_lt, List, [], ◌∷◌, ◌++◌, length, map, take, get_or, arith, append_assoc, append-nil}
 use Rattle.std.specs.Bool.{IsTrue}
 use Rattle.std.specs.Option.{is_some}
-use Rattle.std.specs.List.{filter, list_all, sum}
+use Rattle.std.specs.List.{sum}
 use Rattle.std.proofs.lemmas.Bool.{and_parts, lt-ltb}
 use Rattle.std.proofs.lemmas.Bool.Decides.{nat_tests}
-use Rattle.std.proofs.lemmas.List.{take_more, map-append}
+use Rattle.std.proofs.lemmas.List.{map-append}
 use Rattle.std.proofs.lemmas.List.Elements.{filter-append}
 use Rattle.ch_affine.specs.Form.{Form}
 use Rattle.ch_affine.specs.declared.system.Range.{Range}
@@ -17,7 +17,7 @@ use Rattle.ch_nest.specs.declared.nest.Item.TheOpen.{Item-F}
 use Rattle.ch_nest.specs.declared.nest.Item.TheFolds.{fold-roll-Item}
 use Rattle.ch_nest.specs.Limits.{most_cells, most_work}
 use Rattle.ch_nest.specs.LoopNest.{LoopNest}
-use Rattle.ch_nest.specs.Shape.{all_numbered, all_pass, arrays_fit, box_of, head_fits, is_nest, is_small, item_fits, item_fits_step, items_fit}
+use Rattle.ch_nest.specs.Shape.{all_numbered, arrays_fit, box_of, head_fits, is_nest, is_small, item_fits, item_fits_step, items_fit}
 use Rattle.ch_nest.specs.Sound.{items_work}
 use Rattle.ch_nest.proofs.Fits.{loop_fits_is}
 use Rattle.ch_nest.proofs.Turns.{fit_at}
@@ -25,7 +25,7 @@ use Rattle.ch_space.specs.declared.level.Level.{Level}
 use Rattle.ch_space.specs.declared.nest_pieces.Found.{Found}
 use Rattle.ch_space.specs.declared.piece.Piece.{Piece}
 use Rattle.ch_space.specs.Built.{boxes_from, piece_of}
-use Rattle.ch_space.specs.Fitting.{Adds, AreBelow, IsBelow, LevelsFit, are_short, capped, is_short}
+use Rattle.ch_space.specs.Fitting.{Adds, AreBelow, IsBelow, are_short, capped, is_short}
 use Rattle.ch_space.specs.Keeps.{most_instances, IsSpace}
 use Rattle.ch_space.specs.Listed.{Listed}
 use Rattle.ch_space.specs.Pieces.{listed}

@@ -1,4 +1,4 @@
-use Rattle.std.proofs.Common.{refl, rules, length, arith, [], ◌∙◌}
+use Rattle.std.proofs.Common.{refl, rules, arith, [], ◌∙◌}
 use Rattle.ch_nest.specs.declared.nest.Item.TheViews.{the_lemmas}
 use Rattle.ch_space.proofs.Builds.{levels_few}
 use Rattle.ch_space.proofs.FindSteps.{adds_more, inside_below, item_below}
