@@ -11,7 +11,7 @@ use std::test::Fail;
 type Place = (u32, i64, i64);
 
 #[derive(Clone, Copy, Debug, PartialEq, Eq)]
-enum Told {
+enum Outcome {
     Sound,
     TooMany,
     /// A statement, the value of the loop, the number of the access, an array and a subscript.
@@ -69,21 +69,23 @@ fn nest(alloc: Global, high: i64, first: [Place; 3], second: [Place; 3]) -> Resu
     Ok(nest)
 }
 
-fn told(judgement: Result<(), SpaceError>) -> Told {
+fn outcome_of(judgement: Result<(), SpaceError>) -> Outcome {
     match judgement {
-        Ok(()) => Told::Sound,
-        Err(SpaceError::TooMany) => Told::TooMany,
-        Err(SpaceError::OutOfRange {
-            first,
-            access,
-            cell,
-        }) => match (first.label, first.iters.as_slice(), cell.subs.as_slice()) {
+        Ok(()) => Outcome::Sound,
+        Err(SpaceError::TooMany) => Outcome::TooMany,
+        Err(
+            SpaceError::OutOfRange {
+                first,
+                access,
+                cell,
+            },
+        ) => match (first.label, first.iters.as_slice(), cell.subs.as_slice()) {
             (Label::Stmt(label), [iter], [sub]) => {
-                Told::Leaves(label, *iter, access, cell.array, *sub)
+                Outcome::Leaves(label, *iter, access, cell.array, *sub)
             }
-            _ => Told::Other,
+            _ => Outcome::Other,
         },
-        Err(SpaceError::Memory) => Told::Other,
+        Err(SpaceError::Memory) => Outcome::Other,
     }
 }
 
@@ -92,21 +94,51 @@ fn the_first_access_that_leaves(rt: HostRuntime) -> Result<(), Fail> {
     let alloc = rt.alloc();
     let fine = [(0, 0, 0), (1, 0, 9), (0, 0, 9)];
     let cases = [
-        (9, fine, [(1, 1, 0), (0, 1, 0), (0, -1, 9)], Told::Sound),
+        (9, fine, [(1, 1, 0), (0, 1, 0), (0, -1, 9)], Outcome::Sound),
         // In the sixth turn.
-        (9, [(0, 2, 1), (1, 0, 0), (0, 0, 1)], fine, Told::Leaves(0, 5, 0, 0, 11)),
+        (
+            9,
+            [(0, 2, 1), (1, 0, 0), (0, 0, 1)],
+            fine,
+            Outcome::Leaves(0, 5, 0, 0, 11),
+        ),
         // Its accesses are numbered after the three of the first statement; both reads leave.
-        (3, fine, [(1, 1, 0), (0, 1, 8), (1, -1, 1)], Told::Leaves(1, 2, 4, 0, 10)),
-        (3, fine, [(1, 1, 0), (0, 1, 6), (1, -1, 1)], Told::Leaves(1, 2, 5, 1, -1)),
+        (
+            3,
+            fine,
+            [(1, 1, 0), (0, 1, 8), (1, -1, 1)],
+            Outcome::Leaves(1, 2, 4, 0, 10),
+        ),
+        (
+            3,
+            fine,
+            [(1, 1, 0), (0, 1, 6), (1, -1, 1)],
+            Outcome::Leaves(1, 2, 5, 1, -1),
+        ),
         // The write counts before the reads.
-        (0, [(1, 0, 10), (0, 0, 12), (0, 0, 0)], fine, Told::Leaves(0, 0, 0, 1, 10)),
+        (
+            0,
+            [(1, 0, 10), (0, 0, 12), (0, 0, 0)],
+            fine,
+            Outcome::Leaves(0, 0, 0, 1, 10),
+        ),
         // Three turns and instances each time round: 1,048,575 and 1,048,578.
-        (349524, fine, [(0, 1, -349523), (0, 0, 0), (0, 0, 0)], Told::Leaves(1, 0, 3, 0, -349523)),
-        (349525, fine, [(0, 1, -349523), (0, 0, 0), (0, 0, 0)], Told::TooMany),
+        (
+            349524,
+            fine,
+            [(0, 1, -349523), (0, 0, 0), (0, 0, 0)],
+            Outcome::Leaves(1, 0, 3, 0, -349523),
+        ),
+        (
+            349525,
+            fine,
+            [(0, 1, -349523), (0, 0, 0), (0, 0, 0)],
+            Outcome::TooMany,
+        ),
     ];
     for (high, first, second, wanted) in cases {
         let nest = nest(alloc, high, first, second)?;
-        assert_eq!(rt; told(judged(alloc, &nest)), wanted, "up to {high}");
+        assert_eq!(rt; outcome_of(judged(alloc, &nest)), wanted, "up to {high}");
     }
     judgement_is_sound();
     Ok(())

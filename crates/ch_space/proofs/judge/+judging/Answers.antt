@@ -124,7 +124,7 @@ walk_item-returns-in_err-turn-in-Loop t c =
     let before = simp to_z-of_z at c.loop-k.invariant in
     err_walks c.from_residual.result c.in_err-turn-in-Loop.field-0.0 _ _ c.args.walk c.from_residual.ensures.1
     (turn_ends c.args.nest.now c.args.item.now c.in-Loop.lows c.in-Loop.highs c.in-Loop.items c.args.point.now c.greatest_low-low.result c.least_high-high.result c.loop-k.k c.turns_of-turns.result
-        c.in_err-turn-in-Loop.field-0.0 c.args.walk c.loop-k.walk c.in-Loop.is low high n c.loop-k-test.true before c.in_err-turn-in-Loop.ensures)
+    c.in_err-turn-in-Loop.field-0.0 c.args.walk c.loop-k.walk c.in-Loop.is low high n c.loop-k-test.true before c.in_err-turn-in-Loop.ensures)
 
 pub walk_item-returns-in_err-walk-in-Loop : goal.walk_item-returns-in_err-walk-in-Loop
 walk_item-returns-in_err-walk-in-Loop t c =
@@ -140,5 +140,5 @@ walk_item-returns-in_err-walk-in-Loop t c =
     let here = rw c.as_slice-in-loop-k.ensures at c.in_err-walk-in-Loop.ensures in
     err_walks c.from_residual-in_err-walk-in-Loop.result c.in_err-walk-in-Loop.field-0.0 _ _ c.args.walk c.from_residual-in_err-walk-in-Loop.ensures.1
     (inner_ends c.args.nest.now c.args.item.now c.in-Loop.lows c.in-Loop.highs c.in-Loop.items c.args.point.now (take (length c.args.point.now + 1) c.extended-inner.result)
-        c.greatest_low-low.result c.least_high-high.result c.loop-k.k c.turns_of-turns.result c.in_err-walk-in-Loop.field-0.0 c.args.walk c.loop-k.walk c.in_ok-turn-in-Loop.turn c.in-Loop.is low high n
-        c.loop-k-test.true inner before c.in_ok-turn-in-Loop.ensures here)
+    c.greatest_low-low.result c.least_high-high.result c.loop-k.k c.turns_of-turns.result c.in_err-walk-in-Loop.field-0.0 c.args.walk c.loop-k.walk c.in_ok-turn-in-Loop.turn c.in-Loop.is low high n
+    c.loop-k-test.true inner before c.in_ok-turn-in-Loop.ensures here)

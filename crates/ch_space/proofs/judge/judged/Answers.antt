@@ -19,4 +19,4 @@ pub returns-in-Some-clause-exact : goal.returns-in-Some-clause-exact
 returns-in-Some-clause-exact c =
     rw c.in-Some.refusal-is
     (refusal_judged c.in-Some.refusal (judgement c.args.nest.now)
-        (walk_judged c.args.nest.now c.as_slice.result.now c.in_ok-end.end (c.as_slice.ensures ∙ ap (λ n. n.items) c.nest.view_is) c.in_ok-end.ensures ∙ c.in-Some.is))
+    (walk_judged c.args.nest.now c.as_slice.result.now c.in_ok-end.end (c.as_slice.ensures ∙ ap (λ n. n.items) c.nest.view_is) c.in_ok-end.ensures ∙ c.in-Some.is))
