@@ -1,9 +1,9 @@
 -- The instances of a statement's piece are the values that its loops take, and as many as its turns.
-use Rattle.std.proofs.Common.{◌≡◌, refl, sym, ap, ap₂, ◌∙◌, subst, ℕ, zero, suc, ◌+◌, ◌-◌, ◌<◌, ◌≤◌, ℤ, pos, negsuc, ◌+ℤ◌, ◌-ℤ◌, ◌≤ℤ◌, ◌<ℤ◌, unsigned_abs, int_le, ◌⊎◌, Bool, true, false, cond, ◌&&◌, ◌||◌, List, [], ◌∷◌, ◌++◌, length, map, take, inl, inr, arith, length-append}
+use Rattle.std.proofs.Common.{◌≡◌, refl, sym, ap, ap₂, ◌∙◌, subst, ℕ, zero, suc, ◌+◌, ◌-◌, ℤ, pos, negsuc, ◌+ℤ◌, ◌-ℤ◌, ◌≤ℤ◌, ◌<ℤ◌, unsigned_abs, int_le, Bool, true, false, cond, List, [], ◌∷◌, ◌++◌, length, map, take, inl, inr, arith, length-append}
 use Rattle.std.specs.Bool.{IsTrue}
-use Rattle.std.specs.List.{filter, flat_map, list_any}
+use Rattle.std.specs.List.{filter, flat_map}
 use Rattle.std.specs.Ordering.{int_eq}
-use Rattle.std.proofs.lemmas.Bool.{and_parts, both_ways, or_cases, or_left, or_right, cases_lt}
+use Rattle.std.proofs.lemmas.Bool.{and_parts}
 use Rattle.std.proofs.lemmas.Int.{ints, by_lt_z}
 use Rattle.std.proofs.lemmas.List.{length-map, take_all}
 use Rattle.std.proofs.lemmas.List.Elements.{filter-append}
@@ -11,7 +11,7 @@ use Rattle.ch_affine.specs.Rows.{Rows, lies_in, all_hold, system}
 use Rattle.ch_affine.specs.declared.system.Range.{Range}
 use Rattle.ch_nest.specs.Run.{count, low_of, high_of}
 use Rattle.ch_nest.specs.Shape.{box_of}
-use Rattle.ch_nest.proofs.Corners.{LiesFirst, lies_first, lies_length, lies_push}
+use Rattle.ch_nest.proofs.Corners.{lies_first, lies_length, lies_push}
 use Rattle.ch_poly.specs.Points.{upwards, natural, numbers, box_points, points, begins, begins_some}
 use Rattle.ch_poly.proofs.Firsts.{filter_cons}
 use Rattle.ch_space.specs.declared.level.Level.{Level}
@@ -21,9 +21,9 @@ use Rattle.ch_space.specs.Statements.{Statement, sum_turns, turns_below, instanc
 use Rattle.ch_space.specs.Fitting.{LevelsFit}
 use Rattle.ch_space.proofs.Findings.{nth_is}
 use Rattle.ch_space.proofs.Membership.{in_flat, flat_in, in_filter, filter_in, any_from, any_in}
-use Rattle.ch_space.proofs.Rowed.{InLevelBox, in_level_box, rows_hold, rows_held, lies_between}
+use Rattle.ch_space.proofs.Rowed.{in_level_box, rows_hold, rows_held, lies_between}
 use Rattle.ch_space.proofs.Shapes.{length_boxes}
-use Rattle.ch_space.proofs.Turnings.{Between, length_between}
+use Rattle.ch_space.proofs.Turnings.{Between}
 use Rattle.ch_timed.specs.Members.{In}
 use Rattle.ch_timed.proofs.Orders.{in_map, map_in}
 
@@ -187,21 +187,21 @@ turns_within : (lo : ℤ) (n : ℕ) (low high : ℤ) (c f : ℤ → ℕ) → Cov
 turns_within lo n low high c f covers same before after = by_lt_z high low
     (λ l. turns_none n lo c (λ x a b. by_lt_z x low (before x) (λ m. after x (omega (arith, ints)))) ∙ sym (ap (λ k. sum_turns k low f) (no_turns low high l)))
     (λ l.
-        let from = covers.from l in
-        let to = covers.to l in
-        let k : ℕ = count low high in
-        let top = some_turns low high l in
-        let a : ℕ = unsigned_abs (low -ℤ lo) in
-        let at : lo +ℤ pos a ≡ low = nth_is lo low from in
-        let r : ℕ = n - (a + k) in
-        let whole : n ≡ (a + k) + r = omega (arith, ints, at, top, to) in
-        let parts : sum_turns n lo c ≡ (sum_turns a lo c + sum_turns k low c) + sum_turns r (lo +ℤ pos (a + k)) c =
-        ap (λ m. sum_turns m lo c) whole ∙ turns_both (a + k) r lo c
-        ∙ ap (λ m. m + sum_turns r (lo +ℤ pos (a + k)) c) (turns_both a k lo c ∙ ap (λ z. sum_turns a lo c + sum_turns k z c) at) in
-        let first : sum_turns a lo c ≡ 0 = turns_none a lo c (λ x p q. before x (omega (arith, ints, at))) in
-        let last : sum_turns r (lo +ℤ pos (a + k)) c ≡ 0 = turns_none r (lo +ℤ pos (a + k)) c (λ x p q. after x (omega (arith, ints, at, top))) in
-        let middle : sum_turns k low c ≡ sum_turns k low f = turns_alike k low c f (λ x p q. same x p (omega (arith, ints, top))) in
-        parts ∙ omega arith)
+    let from = covers.from l in
+    let to = covers.to l in
+    let k : ℕ = count low high in
+    let top = some_turns low high l in
+    let a : ℕ = unsigned_abs (low -ℤ lo) in
+    let at : lo +ℤ pos a ≡ low = nth_is lo low from in
+    let r : ℕ = n - (a + k) in
+    let whole : n ≡ (a + k) + r = omega (arith, ints, at, top, to) in
+    let parts : sum_turns n lo c ≡ (sum_turns a lo c + sum_turns k low c) + sum_turns r (lo +ℤ pos (a + k)) c =
+    ap (λ m. sum_turns m lo c) whole ∙ turns_both (a + k) r lo c
+    ∙ ap (λ m. m + sum_turns r (lo +ℤ pos (a + k)) c) (turns_both a k lo c ∙ ap (λ z. sum_turns a lo c + sum_turns k z c) at) in
+    let first : sum_turns a lo c ≡ 0 = turns_none a lo c (λ x p q. before x (omega (arith, ints, at))) in
+    let last : sum_turns r (lo +ℤ pos (a + k)) c ≡ 0 = turns_none r (lo +ℤ pos (a + k)) c (λ x p q. after x (omega (arith, ints, at, top))) in
+    let middle : sum_turns k low c ≡ sum_turns k low f = turns_alike k low c f (λ x p q. same x p (omega (arith, ints, top))) in
+    parts ∙ omega arith)
 
 -- filtered points of a box
 
@@ -239,19 +239,19 @@ count_points t boxes (l ∷ ls) pre fit inside from to =
     let covers : Covers box.low n low high = record {
       from = λ o. (in_level_box boxes l pre low fit.0 inside (omega (arith, ints)) o).low;
       to = λ o.
-      let a = in_level_box boxes l pre high fit.0 inside o (omega (arith, ints)) in
-      let b = a.low in
-      let c = a.high in
-      let e = natural_is ((box.high +ℤ pos 1) -ℤ box.low) (omega (arith, ints)) in
-      omega (arith, ints, e);
+          let a = in_level_box boxes l pre high fit.0 inside o (omega (arith, ints)) in
+          let b = a.low in
+          let c = a.high in
+          let e = natural_is ((box.high +ℤ pos 1) -ℤ box.low) (omega (arith, ints)) in
+          omega (arith, ints, e);
     } in
     let long : (p : List ℤ) → In p (box_points inner) → length p ≡ length ls = λ p i. lies_length inner p (box_points_lie inner p i) ∙ length_boxes (boxes ++ box ∷ []) ls in
     length_flat t inner n box.low
     ∙ turns_within box.low n low high (λ x. length (filter (λ p. t (x ∷ p)) (box_points inner))) (λ x. turns_below ls (pre ++ x ∷ [])) covers
     (λ x a b.
-        let here = in_level_box boxes l pre x fit.0 inside a b in
-        count_points (λ p. t (x ∷ p)) (boxes ++ box ∷ []) ls (pre ++ x ∷ []) fit.2 (lies_push boxes box pre x inside here.low here.high)
-        (λ p k e. (from (x ∷ p) (ap suc k) e).1) (λ p m. to (x ∷ p) ((a, b), m)))
+    let here = in_level_box boxes l pre x fit.0 inside a b in
+    count_points (λ p. t (x ∷ p)) (boxes ++ box ∷ []) ls (pre ++ x ∷ []) fit.2 (lies_push boxes box pre x inside here.low here.high)
+    (λ p k e. (from (x ∷ p) (ap suc k) e).1) (λ p m. to (x ∷ p) ((a, b), m)))
     (λ x o. ap length (filter_none (λ p. t (x ∷ p)) (box_points inner) (λ p i e. let m = (from (x ∷ p) (ap suc (long p i)) e).0.0 in absurd (omega (arith, ints)))))
     (λ x o. ap length (filter_none (λ p. t (x ∷ p)) (box_points inner) (λ p i e. let m = (from (x ∷ p) (ap suc (long p i)) e).0.1 in absurd (omega (arith, ints)))))
 

@@ -165,7 +165,7 @@ last_in [] m f = absurd cc
 last_in (x ∷ []) m f = inl cc
 last_in (x ∷ y ∷ more) m f = inr (last_in (y ∷ more) m f)
 
-at_all : {X : Type 0} (P : X → Type 0) (xs : List X) (x : X) → All P xs → In x xs → P x
+pub at_all : {X : Type 0} (P : X → Type 0) (xs : List X) (x : X) → All P xs → In x xs → P x
 at_all P [] x h i = absurd i
 at_all P (y ∷ ys) x h (inl e) = subst P e (All-head P y ys h)
 at_all P (y ∷ ys) x h (inr i) = at_all P ys x (All-tail P y ys h) i

@@ -1,5 +1,5 @@
 -- The elements of a nest are those of its statements.
-use Rattle.std.proofs.Common.{◌≡◌, refl, sym, ap, ap₂, ◌∙◌, subst, ℕ, zero, suc, ◌+◌, ◌<◌, ℤ, pos, ◌+ℤ◌, ◌-ℤ◌, ◌≤ℤ◌, ◌<ℤ◌, unsigned_abs, List, [], ◌∷◌, ◌++◌, length, map, ◌⊎◌, inl, inr, arith, append_assoc, length-append}
+use Rattle.std.proofs.Common.{◌≡◌, refl, sym, ap, ◌∙◌, subst, ℕ, zero, suc, ◌+◌, ◌<◌, ℤ, pos, ◌+ℤ◌, ◌-ℤ◌, ◌≤ℤ◌, unsigned_abs, List, [], ◌∷◌, ◌++◌, length, map, inl, inr, arith, length-append}
 use Rattle.std.proofs.lemmas.Int.{ints}
 use Rattle.std.proofs.lemmas.Bool.{cases_lt}
 use Rattle.std.proofs.lemmas.List.{map-append}
@@ -12,7 +12,7 @@ use Rattle.ch_nest.proofs.Turns.{nth_below}
 use Rattle.ch_space.specs.declared.level.Level.{Level}
 use Rattle.ch_space.specs.Statements.{Statement, Finding, at_numbers, statements_step, statements_of, statements}
 use Rattle.ch_space.proofs.Membership.{in_append, append_left, append_right}
-use Rattle.ch_space.proofs.Turnings.{Between, Pushed, pushed, push, length_between}
+use Rattle.ch_space.proofs.Turnings.{Between, pushed, push, length_between}
 use Rattle.ch_timed.specs.Members.{In}
 use Rattle.ch_timed.specs.declared.element.Element.{Element}
 use Rattle.ch_timed.specs.declared.element.Label.TheVariants.{Stmt}
@@ -95,14 +95,14 @@ items_forth (f ∷ ks) k levels places iters vector lead b same e i =
     let here = statements_of (bare f) levels (places ++ k ∷ []) in
     let later = at_numbers (suc k) (map statements_of (map bare ks)) levels places in
     elim (in_append front back e i) as (λ _. Has (here ++ later) e) [
-  | inl j ↦
-      let n : length (places ++ k ∷ []) ≡ length iters + 1 = length-append places (k ∷ []) ∙ ap (λ m. m + 1) same in
-      let r = f.1.forth levels (places ++ k ∷ []) iters b n e (subst (λ v. In e (start_item (bare f) iters v)) (lead k) j) in
-      record { s = r.s; there = append_left here later r.s r.there; xs = r.xs; inside = r.inside; is = r.is }
-  | inr j ↦
-      let r = items_forth ks (suc k) levels places iters vector lead b same e j in
-      record { s = r.s; there = append_right here later r.s r.there; xs = r.xs; inside = r.inside; is = r.is }
-]
+      | inl j ↦
+          let n : length (places ++ k ∷ []) ≡ length iters + 1 = length-append places (k ∷ []) ∙ ap (λ m. m + 1) same in
+          let r = f.1.forth levels (places ++ k ∷ []) iters b n e (subst (λ v. In e (start_item (bare f) iters v)) (lead k) j) in
+          record { s = r.s; there = append_left here later r.s r.there; xs = r.xs; inside = r.inside; is = r.is }
+      | inr j ↦
+          let r = items_forth ks (suc k) levels places iters vector lead b same e j in
+          record { s = r.s; there = append_right here later r.s r.there; xs = r.xs; inside = r.inside; is = r.is }
+    ]
 
 items_back : (ks : List Known) (k : ℕ) (levels : List Level) (places : List ℕ) (vector : List ℤ → List ℤ)
     → ((iters : List ℤ) → length iters ≡ length levels → Leads (vector iters) places iters) → length places ≡ length levels
@@ -113,24 +113,24 @@ items_back (f ∷ ks) k levels places vector lead same s i xs b =
     let here = statements_of (bare f) levels (places ++ k ∷ []) in
     let later = at_numbers (suc k) (map statements_of (map bare ks)) levels places in
     elim (in_append here later s i) as (λ _. Begun levels (λ iters. at_places k (map start_item (map bare (f ∷ ks))) iters (vector iters)) (element_of s xs)) [
-  | inl j ↦
-      let n : length (places ++ k ∷ []) ≡ length levels + 1 = length-append places (k ∷ []) ∙ ap (λ m. m + 1) same in
-      let r = f.1.back levels (places ++ k ∷ []) n s j xs b in
-      let is = lead r.iters (length_between [] levels r.iters r.inside) k in
-      record {
-        iters = r.iters;
-        inside = r.inside;
-        there = append_left (start_item (bare f) r.iters (vector r.iters ++ pos k ∷ [])) (at_places (suc k) (map start_item (map bare ks)) r.iters (vector r.iters)) (element_of s xs)
-            (subst (λ v. In (element_of s xs) (start_item (bare f) r.iters v)) (sym is) r.there);
-      }
-  | inr j ↦
-      let r = items_back ks (suc k) levels places vector lead same s j xs b in
-      record {
-        iters = r.iters;
-        inside = r.inside;
-        there = append_right (start_item (bare f) r.iters (vector r.iters ++ pos k ∷ [])) (at_places (suc k) (map start_item (map bare ks)) r.iters (vector r.iters)) (element_of s xs) r.there;
-      }
-]
+      | inl j ↦
+          let n : length (places ++ k ∷ []) ≡ length levels + 1 = length-append places (k ∷ []) ∙ ap (λ m. m + 1) same in
+          let r = f.1.back levels (places ++ k ∷ []) n s j xs b in
+          let is = lead r.iters (length_between [] levels r.iters r.inside) k in
+          record {
+            iters = r.iters;
+            inside = r.inside;
+            there = append_left (start_item (bare f) r.iters (vector r.iters ++ pos k ∷ [])) (at_places (suc k) (map start_item (map bare ks)) r.iters (vector r.iters)) (element_of s xs)
+                (subst (λ v. In (element_of s xs) (start_item (bare f) r.iters v)) (sym is) r.there);
+          }
+      | inr j ↦
+          let r = items_back ks (suc k) levels places vector lead same s j xs b in
+          record {
+            iters = r.iters;
+            inside = r.inside;
+            there = append_right (start_item (bare f) r.iters (vector r.iters ++ pos k ∷ [])) (at_places (suc k) (map start_item (map bare ks)) r.iters (vector r.iters)) (element_of s xs) r.there;
+          }
+    ]
 
 leads_on : (ps xs : List ℤ) (x p : ℤ) → length ps ≡ length xs + 1 → (woven ps xs ++ x ∷ []) ++ p ∷ [] ≡ woven (ps ++ p ∷ []) (xs ++ x ∷ [])
 leads_on [] xs x p e = absurd (omega arith)
@@ -233,7 +233,7 @@ pub found_start : (nest : LoopNest) (s : Statement) (xs : List ℤ) → In s (st
 found_start nest s xs i inside =
     let b = bare_again nest.items in
     let r = items_back (with_proofs nest.items) 0 [] [] (λ iters. []) (λ iters e k. leads [] iters (sym e) k) refl s
-        (subst (λ is. In s (at_numbers 0 (map statements_of is) [] [])) (sym b) i) xs inside in
+    (subst (λ is. In s (at_numbers 0 (map statements_of is) [] [])) (sym b) i) xs inside in
     let there : In (element_of s xs) (at_places 0 (map start_item (map bare (with_proofs nest.items))) [] []) =
-        subst (λ iters. In (element_of s xs) (at_places 0 (map start_item (map bare (with_proofs nest.items))) iters [])) (none_around r.iters r.inside) r.there in
+    subst (λ iters. In (element_of s xs) (at_places 0 (map start_item (map bare (with_proofs nest.items))) iters [])) (none_around r.iters r.inside) r.there in
     subst (λ is. In (element_of s xs) (at_places 0 (map start_item is) [] [])) b there

@@ -12,3 +12,13 @@ pub mod Bodies
 pub mod Assembled
 pub mod Turning
 pub mod EndsOf
+
+pub mod Builds
+pub mod TurnSteps
+pub mod FindSteps
+pub mod Subscripted
+pub mod Judgings
+pub mod Short
+pub mod NextPlaces
+pub mod ClosedPieces
+pub mod PlacesInOrder

@@ -1,5 +1,5 @@
 -- The statements of a well formed nest: their loops and bodies fit, and their places ascend.
-use Rattle.std.proofs.Common.{◌≡◌, refl, sym, ap, ap₂, ◌∙◌, subst, ℕ, zero, suc, ◌+◌, ◌<◌, ◌≤◌, ℤ, pos, ◌<ℤ◌, ◌&&◌, nat_lt, true, List, [], ◌∷◌, ◌++◌, length, map, inl, inr, arith, append_assoc, append-nil, length-append}
+use Rattle.std.proofs.Common.{◌≡◌, refl, sym, ap, ap₂, ◌∙◌, subst, ℕ, suc, ◌+◌, ◌<◌, ◌≤◌, ℤ, pos, ◌&&◌, nat_lt, List, [], ◌∷◌, ◌++◌, length, map, arith, append_assoc, append-nil, length-append}
 use Rattle.std.specs.Bool.{IsTrue}
 use Rattle.std.proofs.lemmas.Bool.{and_parts}
 use Rattle.std.proofs.lemmas.Int.{ints}
@@ -8,10 +8,8 @@ use Rattle.std.specs.Ordering.{int_cmp, ordering_then}
 use Rattle.std.specs.declared.cmp.Ordering.TheVariants.{Less}
 use Rattle.std.specs.Cmp.{tied_itself, int_cmp_total}
 use Rattle.std.specs.Cmp.Lexicographic.{slice_cmp}
-use Rattle.ch_affine.specs.Form.{Form}
 use Rattle.ch_affine.specs.declared.system.Range.{Range}
 use Rattle.ch_nest.specs.declared.nest.ArrayDecl.{ArrayDecl}
-use Rattle.ch_nest.specs.declared.nest.Body.{Body}
 use Rattle.ch_nest.specs.declared.nest.Item.{Item, map-Item}
 use Rattle.ch_nest.specs.declared.nest.Item.TheOpen.{Item-F}
 use Rattle.ch_nest.specs.declared.nest.Item.TheFolds.{fold-roll-Item, ind-Item}
@@ -20,7 +18,7 @@ use Rattle.ch_space.specs.declared.level.Level.{Level}
 use Rattle.ch_space.specs.Built.{boxes_from}
 use Rattle.ch_space.specs.Fitting.{LevelsFit}
 use Rattle.ch_space.specs.Statements.{Statement, Finding, at_numbers, statements_step, statements_of, statements}
-use Rattle.ch_timed.specs.Members.{Each, In}
+use Rattle.ch_timed.specs.Members.{Each}
 use Rattle.ch_timed.proofs.Blocks.{int_less}
 use Rattle.ch_timed.proofs.Orders.{IsAscending, each_more}
 
@@ -146,7 +144,7 @@ module _ (arrays : List ArrayDecl) where
       let head = (and_parts (head_fits (length boxes) lows highs) (nat_lt 0 (length tests)) top.0).0 in
       let low = and_parts (is_small box) (all_pass tests (boxes ++ box ∷ [])) top.1 in
       let r = items_shaped ks 0 (levels ++ l ∷ []) places (levels_last [] levels l fit head low.0) (same ∙ sym (length-append levels (l ∷ [])))
-          (subst (λ b. IsTrue (all_pass tests b)) (sym (boxes_last [] levels l)) low.1) in
+      (subst (λ b. IsTrue (all_pass tests b)) (sym (boxes_last [] levels l)) low.1) in
       record { fit = r.fit; begins = each_more _ _ _ (λ s b. shorter places b.0 s b.1.1) r.begins; ascend = r.ascend }
   layer (Item-F.Assign label body) levels places fit same pass = record {
     fit = (record { levels = fit; places = same; body = subst (λ n. IsTrue (body_fits arrays n body)) (length_boxes [] levels) pass }, tt);

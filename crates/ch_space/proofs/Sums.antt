@@ -1,5 +1,5 @@
 -- The statements of a nest have together at most as many instances as it takes turns and instances.
-use Rattle.std.proofs.Common.{◌≡◌, refl, sym, ap, ap₂, ◌∙◌, subst, ℕ, zero, suc, ◌+◌, ◌<◌, ◌≤◌, ℤ, pos, ◌+ℤ◌, List, [], ◌∷◌, ◌++◌, map, arith}
+use Rattle.std.proofs.Common.{◌≡◌, refl, sym, ap, ap₂, ◌∙◌, subst, ℕ, zero, suc, ◌+◌, ◌≤◌, ℤ, pos, ◌+ℤ◌, List, [], ◌∷◌, ◌++◌, map, arith}
 use Rattle.std.specs.List.{fold, sum}
 use Rattle.ch_nest.specs.declared.nest.Item.{Item, map-Item}
 use Rattle.ch_nest.specs.declared.nest.Item.TheOpen.{Item-F}
@@ -98,8 +98,8 @@ layer (Item-F.Loop lows highs ks) levels places =
     let a = items_cost ks 0 (levels ++ l ∷ []) places in
     let b = below_last levels l [] work in
     let c = below_le levels [] (λ p. sum_turns (count (low_of lows p) (high_of highs p)) (low_of lows p) (λ i. work (p ++ i ∷ [])))
-        (λ p. turns_work (count (low_of lows p) (high_of highs p)) (low_of lows p) (λ i. work (p ++ i ∷ [])))
-        (λ p. turns_worked (count (low_of lows p) (high_of highs p)) (low_of lows p) (λ i. work (p ++ i ∷ []))) in
+    (λ p. turns_work (count (low_of lows p) (high_of highs p)) (low_of lows p) (λ i. work (p ++ i ∷ [])))
+    (λ p. turns_worked (count (low_of lows p) (high_of highs p)) (low_of lows p) (λ i. work (p ++ i ∷ []))) in
     omega arith
 layer (Item-F.Assign label body) levels places = let a = turns_is levels [] in omega arith
 

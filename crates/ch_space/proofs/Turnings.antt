@@ -1,5 +1,5 @@
 -- The values that loops around one another take together.
-use Rattle.std.proofs.Common.{◌≡◌, refl, sym, ap, ◌∙◌, subst, ℕ, suc, ◌+◌, ℤ, pos, ◌≤ℤ◌, List, [], ◌∷◌, ◌++◌, length, append_assoc, append-nil}
+use Rattle.std.proofs.Common.{◌≡◌, refl, sym, ap, subst, suc, ℤ, ◌≤ℤ◌, List, [], ◌∷◌, ◌++◌, length, append_assoc, append-nil}
 use Rattle.ch_nest.specs.Run.{low_of, high_of}
 use Rattle.ch_space.specs.declared.level.Level.{Level}
 
@@ -47,9 +47,11 @@ push pre [] l [] x b low high =
     ((subst (λ p. low_of l.lows p ≤ℤ x) (append-nil pre) low, subst (λ p. x ≤ℤ high_of l.highs p) (append-nil pre) high), tt)
 push pre [] l (y ∷ xs) x b low high = absurd b
 push pre (k ∷ ls) l [] x b low high = absurd b
-push pre (k ∷ ls) l (y ∷ xs) x b low high =
-    (b.0, push (pre ++ y ∷ []) ls l xs x b.1 (subst (λ p. low_of l.lows p ≤ℤ x) (sym (append_assoc pre (y ∷ []) xs)) low)
-    (subst (λ p. x ≤ℤ high_of l.highs p) (sym (append_assoc pre (y ∷ []) xs)) high))
+push pre (k ∷ ls) l (y ∷ xs) x b low high = (
+  b.0,
+  push (pre ++ y ∷ []) ls l xs x b.1 (subst (λ p. low_of l.lows p ≤ℤ x) (sym (append_assoc pre (y ∷ []) xs)) low)
+      (subst (λ p. x ≤ℤ high_of l.highs p) (sym (append_assoc pre (y ∷ []) xs)) high),
+)
 
 pub length_between : (pre : List ℤ) (ls : List Level) (xs : List ℤ) → Between pre ls xs → length xs ≡ length ls
 length_between pre [] [] b = refl

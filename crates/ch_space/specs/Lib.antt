@@ -8,3 +8,6 @@ pub mod Fitting
 pub mod Turned
 pub mod Judged
 pub mod Judges
+
+pub mod Judging
+pub mod Renumbered

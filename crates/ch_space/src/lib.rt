@@ -1,6 +1,8 @@
 //! Spaces: timed lists as pieces, each the integer points of a system of affine rows.
 #![tactic(auto)]
 
+mod accesses;
+mod closing;
 pub mod copies;
 mod error;
 mod level;
@@ -8,16 +10,23 @@ mod nest_pieces;
 mod nest_space;
 mod extremes;
 mod judge;
+
+#[cfg(test)]
+mod judge_tests;
+mod nest_space_tests;
 mod piece;
 mod reading;
 mod rows;
 mod space;
 mod turns;
 
+pub use accesses::Leaving;
+pub use closing::close_up;
 pub use error::SpaceError;
 pub use extremes::ends;
-pub use judge::judged;
-pub use nest_space::sound_space;
+pub use judge::{judged, judgement_is_sound};
+pub use nest_space::{of_nest, sound_space};
+
 pub use piece::Piece;
 pub use reading::{count, group, label, piece_count, pieces, places};
 pub use space::Space;

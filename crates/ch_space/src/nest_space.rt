@@ -1,8 +1,12 @@
 ghost use Rattle.std.specs.Prelude.{◌≡◌, ◌≤◌, [], length, IfOk};
+ghost use Rattle.ch_space.specs.Judged.{judgement};
+ghost use Rattle.ch_space.specs.Judges.{Judges};
 ghost use Rattle.ch_nest.specs.Limits.{most_work};
 ghost use Rattle.ch_nest.specs.Sound.{items_work};
 ghost use Rattle.ch_timed.specs.Start.{start};
 
+use crate::error::SpaceError;
+use crate::judge::judged;
 use crate::nest_pieces::{Found, find_items};
 use crate::space::Space;
 use ch_affine::List;
@@ -10,7 +14,7 @@ use ch_nest::Nest;
 use std::alloc::{AllocError, Global};
 
 /// The space of a nest that does not take too many turns.
-pub fn sound_space(alloc: Global, nest: &Nest) -> Result<Space, AllocError>
+fn sound_space(alloc: Global, nest: &Nest) -> Result<Space, AllocError>
     requires few { items_work nest.now.items [] ≤ most_work }
     ensures { IfOk result (λ space. space ≡ record { list = start nest.now; arrays = length nest.now.arrays; temps = []; weight = 1; commands = 0 }) }
 {
@@ -28,4 +32,22 @@ pub fn sound_space(alloc: Global, nest: &Nest) -> Result<Space, AllocError>
         weight: 1,
         commands: 0,
     })
+}
+
+/// The space of a nest: its timed list, with a piece for each statement that has an instance, and no buffers. A nest that takes
+/// more than 1,048,576 turns and instances is refused; otherwise one with an access that leaves its array is, for the first
+/// such instance in program order and its first such access.
+///
+/// The nest is walked a few times over, without memory for the walk.
+pub fn of_nest(alloc: Global, nest: &Nest) -> Result<Space, SpaceError>
+    ensures judged { Judges result (judgement nest.now) }
+    ensures list { IfOk result (λ space. space.list ≡ start nest.now) }
+    ensures arrays { IfOk result (λ space. space.arrays ≡ length nest.now.arrays) }
+    ensures temps { IfOk result (λ space. space.temps ≡ []) }
+    ensures weight { IfOk result (λ space. space.weight ≡ 1) }
+    ensures commands { IfOk result (λ space. space.commands ≡ 0) }
+{
+    judged(alloc, nest)?;
+    let space = sound_space(alloc, nest)?;
+    Ok(space)
 }

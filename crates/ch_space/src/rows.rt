@@ -125,9 +125,11 @@ pub(crate) fn boxes_of(alloc: Global, levels: &[Level]) -> Result<List<Range>, A
 {
     let mut boxes = List::with_capacity(alloc, levels.len())?;
     for level in levels {
-        if let Some(inner) =
-            small_box(boxes.as_slice(), level.lows.as_slice(), level.highs.as_slice())
-        {
+        if let Some(inner) = small_box(
+            boxes.as_slice(),
+            level.lows.as_slice(),
+            level.highs.as_slice(),
+        ) {
             boxes.push(inner)?;
         }
     }

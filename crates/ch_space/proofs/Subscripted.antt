@@ -1,0 +1,98 @@
+-- The accesses of statements, their numbers and cells, one step on.
+use Rattle.std.proofs.Common.{◌≡◌, refl, sym, ap, ap₂, ◌∙◌, subst, ℕ, zero, suc, ◌+◌, ◌<◌, ℤ, Bool, true, false, ◌&&◌, Option, Some, None, List, [], ◌∷◌, ◌++◌, length, map, drop, take, get_or, append_assoc, append-nil, add-one, arith}
+use Rattle.std.specs.Bool.{IsTrue}
+use Rattle.std.specs.List.{list_all}
+use Rattle.std.proofs.lemmas.Bool.{and_parts}
+use Rattle.std.proofs.lemmas.List.{drop_more, map-append, take_more}
+use Rattle.ch_affine.specs.Form.{Form}
+use Rattle.ch_nest.specs.declared.nest.Access.{Access}
+use Rattle.ch_nest.specs.declared.nest.ArrayDecl.{ArrayDecl}
+use Rattle.ch_nest.specs.declared.nest.Body.{Body}
+use Rattle.ch_nest.specs.declared.nest.Item.{Item}
+use Rattle.ch_nest.specs.declared.nest.Item.TheVariants.{Loop, Assign, rolls-Loop, rolls-Assign}
+use Rattle.ch_nest.specs.declared.nest.Item.TheFolds.{fold-roll-Item}
+use Rattle.ch_nest.specs.declared.nest.Sub.{Sub}
+use Rattle.ch_nest.specs.Run.{sub_value}
+use Rattle.ch_nest.specs.Shape.{access_fits, body_fits, has_dimensions, sub_fits}
+use Rattle.ch_nest.specs.Sound.{access_inside}
+use Rattle.ch_space.specs.declared.accesses.Leaving.{Leaving}
+use Rattle.ch_space.specs.Judged.{access_count, bodies, bodies_of, bodies_step, first_leaving, text_accesses}
+use Rattle.ch_space.proofs.Bodies.{Fits, body_accesses}
+use Rattle.ch_timed.specs.Conflict.{cell_of, reads}
+use Rattle.ch_timed.specs.Members.{Each}
+
+-- the numbers of accesses
+
+loop_bodies : (lows highs : List Form) (items : List Item) → bodies_of (Loop lows highs items) ≡ bodies items
+loop_bodies lows highs items = ap bodies_of (sym (rolls-Loop lows highs items)) ∙ fold-roll-Item (List Body) bodies_step _
+
+assign_bodies : (label : ℕ) (body : Body) → bodies_of (Assign label body) ≡ body ∷ []
+assign_bodies label body = ap bodies_of (sym (rolls-Assign label body)) ∙ fold-roll-Item (List Body) bodies_step _
+
+pub counts_loop : (item : Item) (lows highs : List Form) (items : List Item) (counts next : List ℕ) → item ≡ Loop lows highs items
+    → next ≡ counts ++ map access_count (bodies items) → next ≡ counts ++ map access_count (bodies_of item)
+counts_loop item lows highs items counts next is h = rw (is, loop_bodies lows highs items) h
+
+pub counts_assign : (item : Item) (label : ℕ) (body : Body) (counts next : List ℕ) (n : ℕ) → item ≡ Assign label body → n ≡ access_count body
+    → next ≡ counts ++ n ∷ [] → next ≡ counts ++ map access_count (bodies_of item)
+counts_assign item label body counts next n is e h = rw (is, assign_bodies label body, ← e) h
+
+pub counts_go_on : (items : List Item) (k : ℕ) (d : Item) (counts next total : List ℕ) → k < length items
+    → next ≡ counts ++ map access_count (bodies_of (get_or items k d)) → counts ++ map access_count (bodies (drop k items)) ≡ total
+    → next ++ map access_count (bodies (drop (k + 1) items)) ≡ total
+counts_go_on items k d counts next total l e h =
+    let here = map access_count (bodies_of (get_or items k d)) in
+    let more = map access_count (bodies (drop (k + 1) items)) in
+    ap (λ xs. xs ++ more) e ∙ append_assoc counts here more
+    ∙ ap (λ xs. counts ++ xs) (sym (map-append access_count (bodies_of (get_or items k d)) (bodies (drop (k + 1) items))))
+    ∙ ap (λ is. counts ++ map access_count (bodies is)) (sym (drop_more items k d l)) ∙ h
+
+-- the cell of an access
+
+pub values_go_on : (point : List ℤ) (subs : List Sub) (k : ℕ) (d : Sub) (values : List ℤ) → k < length subs → values ≡ map (sub_value point) (take k subs)
+    → values ++ sub_value point (get_or subs k d) ∷ [] ≡ map (sub_value point) (take (k + 1) subs)
+values_go_on point subs k d values l h =
+    ap (λ vs. vs ++ sub_value point (get_or subs k d) ∷ []) h ∙ sym (map-append (sub_value point) (take k subs) (get_or subs k d ∷ []))
+    ∙ ap (map (sub_value point)) (sym (take_more subs k d l))
+
+list_all_at : {X : Type 0} (p : X → Bool) (xs : List X) (k : ℕ) (d : X) → k < length xs → IsTrue (list_all p xs) → IsTrue (p (get_or xs k d))
+list_all_at p [] k d l h = absurd (omega arith)
+list_all_at p (x ∷ xs) zero d l h = (and_parts (p x) (list_all p xs) h).0
+list_all_at p (x ∷ xs) (suc k) d l h = list_all_at p xs k d (omega arith) ((and_parts (p x) (list_all p xs) h).1)
+
+pub sub_at : (arrays : List ArrayDecl) (n : ℕ) (a : Access) (k : ℕ) (d : Sub) → k < length a.subs → IsTrue (access_fits arrays n a) → IsTrue (sub_fits n (get_or a.subs k d))
+sub_at arrays n a k d l h = list_all_at (sub_fits n) a.subs k d l ((and_parts (has_dimensions arrays a.array (length a.subs)) (list_all (sub_fits n) a.subs) h).1)
+
+-- the first access that leaves its array
+
+pub access_at : (arrays : List ArrayDecl) (n : ℕ) (listed : List Access) (k : ℕ) (d : Access) → k < length listed → IsTrue (list_all (access_fits arrays n) listed)
+    → IsTrue (access_fits arrays n (get_or listed k d))
+access_at arrays n listed k d l h = list_all_at (access_fits arrays n) listed k d l h
+
+pub leaving_goes_on : (arrays : List ArrayDecl) (point : List ℤ) (listed : List Access) (k here : ℕ) (d : Access) (total : Option Leaving) → k < length listed
+    → access_inside arrays point (get_or listed k d) ≡ true → first_leaving arrays point here (drop k listed) ≡ total
+    → first_leaving arrays point (here + 1) (drop (k + 1) listed) ≡ total
+leaving_goes_on arrays point listed k here d total l i h =
+    let a = rw (drop_more listed k d l, i) at h in rw add-one a
+
+pub leaving_here : (arrays : List ArrayDecl) (point : List ℤ) (listed : List Access) (k here : ℕ) (d : Access) (total : Option Leaving) → k < length listed
+    → access_inside arrays point (get_or listed k d) ≡ false → first_leaving arrays point here (drop k listed) ≡ total
+    → Some (record { access = here; cell = cell_of point (get_or listed k d) }) ≡ total
+leaving_here arrays point listed k here d total l i h = let a = rw (drop_more listed k d l, i) at h in a
+
+all_of_each : {X : Type 0} (p : X → Bool) (xs : List X) → Each (λ x. IsTrue (p x)) xs → IsTrue (list_all p xs)
+all_of_each p [] h = refl
+all_of_each p (x ∷ xs) h = rw h.0 (all_of_each p xs h.1)
+
+front : {X : Type 0} (P : X → Type 0) (xs ys : List X) → Each P (xs ++ ys) → Each P xs
+front P [] ys h = tt
+front P (x ∷ xs) ys h = (h.0, front P xs ys h.1)
+
+back : {X : Type 0} (P : X → Type 0) (xs ys : List X) → Each P (xs ++ ys) → Each P ys
+back P [] ys h = h
+back P (x ∷ xs) ys h = back P xs ys h.1
+
+pub text_fits : (arrays : List ArrayDecl) (n : ℕ) (b : Body) → IsTrue (body_fits arrays n b) → IsTrue (list_all (access_fits arrays n) (text_accesses b))
+text_fits arrays n b h =
+    let e = body_accesses arrays n b h in
+    all_of_each (access_fits arrays n) (text_accesses b) ((back (Fits arrays n) (reads b.right) (b.write ∷ []) e).0, front (Fits arrays n) (reads b.right) (b.write ∷ []) e)

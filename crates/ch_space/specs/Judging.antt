@@ -1,0 +1,52 @@
+-- The walk that judges a nest: the refusal of the first instance below some items at a point, and what is left of the turns.
+use Rattle.std.specs.Prelude.{◌≡◌, ◌<◌, ℕ, zero, suc, ◌+◌, ℤ, pos, ◌+ℤ◌, Option, Some, None, Result, Ok, Err, List, [], ◌∷◌, ◌++◌, map}
+use Rattle.ch_nest.specs.declared.nest.Item.{Item}
+use Rattle.ch_nest.specs.declared.nest.Item.TheOpen.{Item-F}
+use Rattle.ch_nest.specs.declared.nest.Item.TheFolds.{fold-Item}
+use Rattle.ch_nest.specs.LoopNest.{LoopNest}
+use Rattle.ch_nest.specs.Run.{count, low_of, high_of}
+use Rattle.ch_space.specs.declared.error.SpaceError.{SpaceError}
+use Rattle.ch_space.specs.declared.error.SpaceError.TheVariants.{TooMany, OutOfRange, Memory}
+use Rattle.ch_space.specs.declared.judge.Walk.{Walk}
+use Rattle.ch_space.specs.Judged.{leaving, or_else}
+use Rattle.ch_timed.specs.declared.element.Label.TheVariants.{Stmt}
+
+-- the refusal that is found from a point on
+abbrev pub Search : Type 0
+Search = List ℤ → Option SpaceError
+
+abbrev pub first_at : List Search → Search
+first_at [] point = None
+first_at (f ∷ fs) point = or_else (f point) (first_at fs point)
+
+-- the refusal of the first of n turns that has one
+abbrev pub first_turn : ℕ → ℤ → (ℤ → Option SpaceError) → Option SpaceError
+first_turn zero low turn = None
+first_turn (suc n) low turn = or_else (first_turn n low turn) (turn (low +ℤ pos n))
+
+abbrev pub refusal_step : LoopNest → Item-F Search → Search
+refusal_step nest (Item-F.Loop lows highs items) point =
+    first_turn (count (low_of lows point) (high_of highs point)) (low_of lows point) (λ i. first_at items (point ++ i ∷ []))
+refusal_step nest (Item-F.Assign label body) point =
+    leaving nest (record { identity = record { label = Stmt label; iters = point }; vector = []; body = body })
+
+abbrev pub item_refusal : LoopNest → Item → Search
+item_refusal nest = fold-Item Search (refusal_step nest)
+
+abbrev pub items_refusal : LoopNest → List Item → Search
+items_refusal nest items = first_at (map (item_refusal nest) items)
+
+-- a walk that went on by so much work, in which this was the first refusal
+pub record GoesOn (work : ℕ) (refusal : Option SpaceError) (old new : Walk) : Type 0 where
+  pub left : new.left + work ≡ old.left
+  pub found : new.found ≡ or_else old.found refusal
+
+abbrev pub Ends : SpaceError → ℕ → ℕ → Type 0
+Ends Memory left work = Unit {0}
+Ends TooMany left work = left < work
+Ends (OutOfRange first access cell) left work = ⊥
+
+-- a walk goes on, unless what is left does not suffice or memory ran out
+abbrev pub Walks : Result Walk SpaceError → ℕ → Option SpaceError → Walk → Type 0
+Walks (Ok new) work refusal old = GoesOn work refusal old new
+Walks (Err e) work refusal old = Ends e old.left work

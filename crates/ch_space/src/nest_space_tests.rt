@@ -1,0 +1,116 @@
+//! Small nests and their spaces.
+
+use crate::{SpaceError, count, of_nest, piece_count, pieces};
+use ch_affine::{Aff, List, Text};
+use ch_nest::{Access, ArrayDecl, Body, Expr, Item, Nest, Sub};
+use ch_timed::Label;
+use std::alloc::{AllocError, Global};
+use std::test::Fail;
+
+fn one<T: Drop>(alloc: Global, item: T) -> Result<List<T>, AllocError> {
+    let mut list = List::new(alloc);
+    list.push(item)?;
+    Ok(list)
+}
+
+fn form(alloc: Global, coefs: &[i64], constant: i64) -> Result<Aff, Fail> {
+    let coefs = List::from_slice(alloc, coefs)?;
+    let form = Aff::new(coefs, constant).ok_or("a small form")?;
+    Ok(form)
+}
+
+fn access(alloc: Global, coefs: &[i64], constant: i64) -> Result<Access, Fail> {
+    let form = form(alloc, coefs, constant)?;
+    let subs = one(alloc, Sub { form, modulus: 0 })?;
+    Ok(Access { array: 0, subs })
+}
+
+fn loop_of(alloc: Global, low: Aff, high: Aff, items: List<Item>) -> Result<Item, AllocError> {
+    let lows = one(alloc, low)?;
+    let highs = one(alloc, high)?;
+    Ok(Item::Loop { lows, highs, items })
+}
+
+/// An array of three cells, and a loop over i below `rows`, with `A[i] = 1` and a loop over j from `first` to i below it,
+/// with `A[j + shift] = A[i]`.
+fn triangle(alloc: Global, rows: i64, first: i64, shift: i64) -> Result<Nest, Fail> {
+    let write = access(alloc, &[1], 0)?;
+    let right = Expr::Number(1);
+    let outer = Item::Assign {
+        label: 0,
+        body: Body { write, right },
+    };
+    let write = access(alloc, &[0, 1], shift)?;
+    let right = Expr::Read(access(alloc, &[1, 0], 0)?);
+    let inner = Item::Assign {
+        label: 1,
+        body: Body { write, right },
+    };
+    let below = loop_of(
+        alloc,
+        form(alloc, &[0], first)?,
+        form(alloc, &[1], 0)?,
+        one(alloc, inner)?,
+    )?;
+    let mut items = one(alloc, outer)?;
+    items.push(below)?;
+    let low = form(alloc, &[], 0)?;
+    let high = form(alloc, &[], rows.saturating_sub(1))?;
+    let top = loop_of(alloc, low, high, items)?;
+    let array = ArrayDecl {
+        name: Text::new(alloc),
+        extents: List::from_slice(alloc, &[3])?,
+    };
+    let arrays = one(alloc, array)?;
+    let nest = Nest::new(arrays, one(alloc, top)?).ok_or("a nest")?;
+    Ok(nest)
+}
+
+#[test]
+fn a_piece_for_each_statement(rt: HostRuntime) -> Result<(), Fail> {
+    let alloc = rt.alloc();
+    let space = of_nest(alloc, &triangle(alloc, 3, 0, 0)?)?;
+    assert_eq!(rt; pieces(&space), 2);
+    assert_eq!(rt; piece_count(&space, 0), 3);
+    assert_eq!(rt; piece_count(&space, 1), 6);
+    Ok(())
+}
+
+#[test]
+fn no_piece_without_an_instance(rt: HostRuntime) -> Result<(), Fail> {
+    let alloc = rt.alloc();
+    let space = of_nest(alloc, &triangle(alloc, 3, 5, 0)?)?;
+    assert_eq!(rt; pieces(&space), 1);
+    assert_eq!(rt; count(&space), 3);
+    Ok(())
+}
+
+#[test]
+fn the_first_access_that_leaves(rt: HostRuntime) -> Result<(), Fail> {
+    let alloc = rt.alloc();
+    match of_nest(alloc, &triangle(alloc, 3, 0, 2)?) {
+        Err(
+            SpaceError::OutOfRange {
+                first,
+                access,
+                cell,
+            },
+        ) => {
+            assert_eq!(rt; first.label, Label::Stmt(1));
+            assert_eq!(rt; first.iters.as_slice(), [1, 1].as_slice());
+            assert_eq!(rt; access, 1);
+            assert_eq!(rt; cell.array, 0);
+            assert_eq!(rt; cell.subs.as_slice(), [3].as_slice());
+        }
+        _ => assert!(rt; false, "not refused"),
+    }
+    Ok(())
+}
+
+#[test]
+fn too_many_turns_before_a_bad_access(rt: HostRuntime) -> Result<(), Fail> {
+    let alloc = rt.alloc();
+    let refused = of_nest(alloc, &triangle(alloc, 1100, 0, 2)?);
+    assert!(rt; matches!(refused, Err(SpaceError::TooMany)));
+    Ok(())
+}
