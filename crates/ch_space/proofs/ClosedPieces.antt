@@ -1,16 +1,13 @@
 -- Pieces at the ranks of their places stand for the list with its places closed up.
-use Rattle.std.proofs.Common.{◌≡◌, ◌≢◌, refl, sym, ap, ap₂, ◌∙◌, subst, ℕ, zero, suc, ◌+◌, ◌<◌, ◌≤◌, ◌^◌, ◌*◌, ℤ, pos, Bool, true, false, IsTrue, List, [], ◌∷◌, ◌++◌, map, length, take, drop, get_or, set, ◌⊎◌, inl, inr, length-append, arith}
-use Rattle.std.specs.List.{All, flat_map, sum}
+use Rattle.std.proofs.Common.{◌≡◌, refl, sym, ap, ap₂, ◌∙◌, subst, ℕ, ◌+◌, ◌<◌, ◌≤◌, ◌^◌, ◌*◌, ℤ, pos, IsTrue, List, [], ◌∷◌, ◌++◌, map, length, get_or, set, ◌⊎◌, inl, inr, length-append, arith}
+use Rattle.std.specs.List.{All, flat_map}
 use Rattle.std.specs.Ordering.{int_cmp}
-use Rattle.std.specs.declared.cmp.Ordering.TheVariants.{Less}
 use Rattle.std.specs.Cmp.Lexicographic.{slice_cmp}
-use Rattle.std.proofs.lemmas.List.{length-map}
-use Rattle.std.proofs.lemmas.List.Elements.{All-cons, All-nil, All-head, All-tail}
+use Rattle.std.proofs.lemmas.List.Elements.{All-cons, All-head, All-tail}
 use Rattle.ch_affine.specs.Affine.{IsAtMost}
-use Rattle.ch_nest.specs.declared.nest.Access.{Access}
-use Rattle.ch_timed.specs.Closed.{at_vector, closed_up, closed_vector, ranks}
+use Rattle.ch_timed.specs.Closed.{at_vector, closed_up, ranks}
 use Rattle.ch_timed.specs.Members.{In}
-use Rattle.ch_timed.specs.Timed.{in_order, pieces, is_well_formed}
+use Rattle.ch_timed.specs.Timed.{in_order, is_well_formed}
 use Rattle.ch_timed.specs.Vectors.{places, values, woven}
 use Rattle.ch_timed.specs.declared.element.Element.{Element}
 use Rattle.ch_timed.proofs.ClosedUp.{closed_fine}
@@ -18,11 +15,11 @@ use Rattle.ch_timed.proofs.Closing.{ranks_less}
 use Rattle.ch_timed.proofs.Orders.{retimed, map_in, in_map}
 use Rattle.ch_space.specs.declared.piece.Piece.{Piece}
 use Rattle.ch_space.specs.Pieces.{element_at, instances, elements, listed}
-use Rattle.ch_space.specs.Keeps.{IsWhole, places_of, AllLater, AreApart, IsSpace, IsBody, IsMoveBelow, accesses, most_instances}
+use Rattle.ch_space.specs.Keeps.{IsWhole, places_of, AllLater, AreApart, IsSpace, IsBody, IsMoveBelow, accesses}
 use Rattle.ch_space.specs.Renumbered.{placed, all_placed, AreRanks}
-use Rattle.ch_space.proofs.Membership.{in_append, append_left, append_right, in_flat, flat_in}
-use Rattle.ch_space.proofs.PieceElements.{one_each, whole_in, element_places, element_values, length_pos, StandsFor, in_stands}
-use Rattle.ch_space.proofs.PieceNumbers.{numbered, in_listed, listed_in, nth_in, all_in}
+use Rattle.ch_space.proofs.Membership.{in_append, append_left, append_right}
+use Rattle.ch_space.proofs.PieceElements.{one_each, element_places, element_values, length_pos}
+use Rattle.ch_space.proofs.PieceNumbers.{numbered, in_listed, listed_in, all_in}
 use Rattle.ch_space.proofs.EndsOf.{at_all}
 use Rattle.ch_space.proofs.NextPlaces.{ranks_long}
 

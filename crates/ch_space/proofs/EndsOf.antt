@@ -1,12 +1,12 @@
 -- The first and the last instance of a piece, from the least points of its system and of the turned one.
-use Rattle.std.proofs.Common.{◌≡◌, ◌≢◌, refl, sym, ap, ap₂, ◌∙◌, subst, ℕ, zero, suc, ◌+◌, ◌<◌, ◌≤◌, ◌^◌, ℤ, pos, neg_ℤ, Bool, true, false, Option, Some, None, List, [], ◌∷◌, ◌++◌, map, length, take, ◌⊎◌, inl, inr, get_or, Result, Ok, Err, IfOk, arith, length-take-le}
+use Rattle.std.proofs.Common.{◌≡◌, ◌≢◌, refl, sym, ap, ap₂, ◌∙◌, subst, ℕ, zero, suc, ◌+◌, ◌<◌, ◌≤◌, ◌^◌, ℤ, pos, neg_ℤ, Some, None, List, [], ◌∷◌, ◌++◌, map, length, take, ◌⊎◌, inl, inr, get_or, Result, Ok, Err, IfOk, arith, length-take-le}
 use Rattle.std.specs.declared.alloc.AllocError.{AllocError}
 use Rattle.std.specs.List.{All, flat_map}
 use Rattle.std.specs.Ordering.{int_cmp, ordering_then}
 use Rattle.std.specs.declared.cmp.Ordering.{Ordering}
 use Rattle.std.specs.declared.cmp.Ordering.TheVariants.{Less, Equal, Greater}
 use Rattle.std.specs.Cmp.{tied_itself, int_cmp_total}
-use Rattle.std.specs.Cmp.Lexicographic.{slice_cmp, lists_total}
+use Rattle.std.specs.Cmp.Lexicographic.{slice_cmp}
 use Rattle.std.proofs.lemmas.List.Elements.{All-take, All-head, All-tail, All-weaker}
 use Rattle.std.proofs.lemmas.List.{length-map, get_or-map, map_more}
 use Rattle.ch_affine.specs.Affine.{IsAtMost, value}
@@ -16,17 +16,15 @@ use Rattle.ch_poly.specs.Points.{first, points, box_points}
 use Rattle.ch_timed.specs.Members.{In, Each}
 use Rattle.ch_timed.specs.declared.element.Element.{Element}
 use Rattle.ch_timed.specs.declared.element.Identity.{Identity}
-use Rattle.ch_timed.specs.Groups.{piece}
-use Rattle.ch_timed.specs.Timed.{pieces}
-use Rattle.ch_timed.proofs.Orders.{IsAscending, at_each, map_in, not_both, not_itself}
+use Rattle.ch_timed.proofs.Orders.{at_each, map_in, not_both, not_itself}
 use Rattle.ch_space.specs.declared.piece.Piece.{Piece}
 use Rattle.ch_space.specs.Pieces.{element_at, instances, elements, listed}
 use Rattle.ch_space.specs.Keeps.{IsWhole, AreApart}
 use Rattle.ch_space.specs.Members.{members, identities, last}
 use Rattle.ch_space.specs.Turned.{negatives, turned}
-use Rattle.ch_space.proofs.Membership.{IsInstance, in_instances, instances_in, inside_take, begins_take, take_begins}
+use Rattle.ch_space.proofs.Membership.{in_instances, instances_in, inside_take, begins_take, take_begins}
 use Rattle.ch_space.proofs.PieceElements.{ListsAscend, Comes, levels_of, box_ascends, filter_ascends, instances_ascend}
-use Rattle.ch_space.proofs.PieceNumbers.{members_are, nth_in, all_in, listed_in}
+use Rattle.ch_space.proofs.PieceNumbers.{members_are, all_in, listed_in}
 use Rattle.ch_space.proofs.Turning.{twice, point_turned, turned_point, point_inside, point_length, opposite, inside_small, point_small}
 
 -- it is the other or comes before it

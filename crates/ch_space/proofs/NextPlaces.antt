@@ -1,11 +1,11 @@
 -- In a list of places in order, the ranks of the next follow from those before.
 use Rattle.std.proofs.Common.{◌≡◌, refl, sym, ap, ap₂, ◌∙◌, subst, ℕ, zero, suc, ◌+◌, ◌<◌, ◌≤◌, ℤ, pos, ◌<ℤ◌, Bool, true, false, ◌&&◌, if◌then◌else◌, nat_eq, nat_lt, List, [], ◌∷◌, ◌++◌, map, length, take, drop, slice_index_or, get_or, ◌⊎◌, inl, inr, arith, append_assoc, append-nil, drop-cons, add-one}
 use Rattle.std.specs.List.{All}
-use Rattle.std.specs.Ordering.{int_cmp, int_eq, ordering_then, is_eq, MatchOrdering}
+use Rattle.std.specs.Ordering.{int_cmp, int_eq, ordering_then, MatchOrdering}
 use Rattle.std.specs.declared.cmp.Ordering.{Ordering}
 use Rattle.std.specs.declared.cmp.Ordering.TheVariants.{Less, Equal, Greater}
 use Rattle.std.specs.Cmp.{tied_itself, int_cmp_total, int_ranked}
-use Rattle.std.specs.Cmp.Lexicographic.{slice_cmp, lists_total}
+use Rattle.std.specs.Cmp.Lexicographic.{slice_cmp}
 use Rattle.std.proofs.lemmas.Int.{ints}
 use Rattle.std.proofs.lemmas.List.{drop_all}
 use Rattle.std.proofs.lemmas.Bool.Decides.{nat_tests}

@@ -1,5 +1,5 @@
 -- The elements of pieces: a vector names its piece and its instance, and a piece's elements stand in the order of their vectors.
-use Rattle.std.proofs.Common.{◌≡◌, ◌≢◌, refl, sym, ap, ap₂, ◌∙◌, subst, ℕ, zero, suc, ◌+◌, ◌<◌, ℤ, pos, ◌+ℤ◌, ◌-ℤ◌, ◌≤ℤ◌, ◌<ℤ◌, Bool, true, false, cond, List, [], ◌∷◌, ◌++◌, map, length, take, drop, ◌⊎◌, inl, inr, arith, length-take-le}
+use Rattle.std.proofs.Common.{◌≡◌, refl, sym, ap, ap₂, ◌∙◌, subst, ℕ, zero, suc, ◌+◌, ℤ, pos, ◌+ℤ◌, ◌-ℤ◌, ◌≤ℤ◌, ◌<ℤ◌, Bool, true, false, cond, List, [], ◌∷◌, ◌++◌, map, length, take, inl, inr, arith, length-take-le}
 use Rattle.std.specs.List.{filter, flat_map}
 use Rattle.std.specs.Ordering.{int_cmp, ordering_then}
 use Rattle.std.specs.declared.cmp.Ordering.TheVariants.{Less}
@@ -7,18 +7,16 @@ use Rattle.std.specs.Cmp.{tied_itself, int_cmp_total}
 use Rattle.std.specs.Cmp.Lexicographic.{slice_cmp, lists_total}
 use Rattle.std.proofs.lemmas.Int.{ints}
 use Rattle.ch_affine.specs.declared.system.Range.{Range}
-use Rattle.ch_affine.specs.Rows.{IsSystem}
-use Rattle.ch_poly.specs.Points.{upwards, natural, numbers, box_points, begins_some}
+use Rattle.ch_poly.specs.Points.{upwards, natural, box_points, begins_some}
 use Rattle.ch_timed.specs.Members.{In, Each}
 use Rattle.ch_timed.specs.declared.element.Element.{Element}
-use Rattle.ch_timed.specs.Timed.{in_order}
 use Rattle.ch_timed.specs.Vectors.{places, values, woven}
 use Rattle.ch_timed.proofs.Blocks.{int_less}
-use Rattle.ch_timed.proofs.Orders.{OneEach, IsAscending, each_more, at_each, map_in, in_map, retimed}
+use Rattle.ch_timed.proofs.Orders.{OneEach, IsAscending, each_more, at_each, in_map}
 use Rattle.ch_space.specs.declared.piece.Piece.{Piece}
-use Rattle.ch_space.specs.Pieces.{element_at, instances, elements, listed}
+use Rattle.ch_space.specs.Pieces.{element_at, instances, elements}
 use Rattle.ch_space.specs.Keeps.{IsWhole, places_of, AllLater, AreApart}
-use Rattle.ch_space.proofs.Membership.{in_append, append_left, append_right, in_flat, in_filter, IsInstance, in_instances, length_inside}
+use Rattle.ch_space.proofs.Membership.{in_append, in_flat, in_filter, in_instances, length_inside}
 
 pub places_woven : (ps xs : List ℤ) → length ps ≡ length xs + 1 → places (woven ps xs) ≡ ps
 places_woven [] xs h = absurd (omega arith)

@@ -1,5 +1,5 @@
 -- Piece k of the list is the k-th piece: its places, its elements, and how many these are.
-use Rattle.std.proofs.Common.{◌≡◌, ◌≢◌, refl, sym, ap, ap₂, ◌∙◌, subst, ℕ, zero, suc, ◌+◌, ◌<◌, ◌≤◌, ℤ, pos, Bool, true, false, cond, List, [], ◌∷◌, ◌++◌, map, length, slice_index_or, get_or, inl, inr, arith}
+use Rattle.std.proofs.Common.{◌≡◌, ◌≢◌, refl, sym, ap, ap₂, ◌∙◌, subst, ℕ, zero, suc, ◌+◌, ◌<◌, ◌≤◌, ℤ, Bool, true, cond, List, [], ◌∷◌, ◌++◌, map, length, slice_index_or, get_or, inl, inr, arith}
 use Rattle.std.specs.List.{All, filter, flat_map, range_with_len, sum, sum_by}
 use Rattle.std.specs.Ordering.{int_cmp, is_eq}
 use Rattle.std.specs.declared.cmp.Ordering.{Ordering}
@@ -16,14 +16,14 @@ use Rattle.ch_timed.specs.Members.{In, Each}
 use Rattle.ch_timed.specs.declared.element.Element.{Element}
 use Rattle.ch_timed.specs.Groups.{piece}
 use Rattle.ch_timed.specs.Ordered.{put, put_by, ordered}
-use Rattle.ch_timed.specs.Timed.{pieces, in_order}
+use Rattle.ch_timed.specs.Timed.{pieces}
 use Rattle.ch_timed.specs.Vectors.{places, same_numbers}
-use Rattle.ch_timed.proofs.Orders.{IsAscending, ascending_same, ordered_ascends, from_order, to_order, map_in, in_map, at_each, not_itself}
+use Rattle.ch_timed.proofs.Orders.{IsAscending, ascending_same, ordered_ascends, from_order, to_order, map_in, in_map, at_each}
 use Rattle.ch_space.specs.declared.piece.Piece.{Piece}
 use Rattle.ch_space.specs.Pieces.{element_at, instances, elements, listed}
-use Rattle.ch_space.specs.Keeps.{IsWhole, places_of, AllLater, AreApart}
+use Rattle.ch_space.specs.Keeps.{places_of, AllLater, AreApart}
 use Rattle.ch_space.specs.Members.{members, sharing, group}
-use Rattle.ch_space.proofs.Membership.{in_append, in_flat, flat_in, in_filter, filter_in}
+use Rattle.ch_space.proofs.Membership.{in_append, flat_in, in_filter, filter_in}
 use Rattle.ch_space.proofs.PieceElements.{one_each, whole_in, element_places, elements_ascend, filter_ascends, StandsFor, in_stands, same_piece, later_in, never}
 
 pub some_in : {X : Type 0} (xs : List X) → (xs ≢ []) → (x : X) × In x xs

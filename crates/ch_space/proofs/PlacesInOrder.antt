@@ -12,7 +12,6 @@ use Rattle.ch_space.specs.Renumbered.{next_places, AreRanks, all_placed}
 use Rattle.ch_space.proofs.PieceElements.{Comes, later_in}
 use Rattle.ch_space.proofs.PieceNumbers.{nth_in}
 use Rattle.ch_space.proofs.NextPlaces.{ranks_first, ranks_next, ranks_most}
-use Rattle.ch_space.proofs.ClosedPieces.{rank_length}
 
 abbrev itself : List ℤ → List ℤ
 itself v = v

@@ -1,5 +1,5 @@
 -- What functions that read a space say of its list.
-use Rattle.std.proofs.Common.{◌≡◌, refl, sym, ap, ap₂, ◌∙◌, subst, ℕ, zero, suc, ◌+◌, ◌<◌, ◌≤◌, ◌^◌, ℤ, pos, ◌<ℤ◌, Bool, true, false, ◌&&◌, cond, nat_eq, nat_lt, List, [], ◌∷◌, ◌++◌, map, length, take, slice_index_or, get_or, Result, Ok, Err, IfOk, lt-ltb, append-nil, arith}
+use Rattle.std.proofs.Common.{◌≡◌, refl, sym, ap, ap₂, ◌∙◌, subst, ℕ, zero, suc, ◌+◌, ◌<◌, pos, ◌<ℤ◌, Bool, true, false, ◌&&◌, cond, nat_eq, nat_lt, List, [], ◌∷◌, ◌++◌, map, length, take, slice_index_or, get_or, Result, Ok, Err, IfOk, lt-ltb, arith}
 use Rattle.std.specs.List.{All, filter, range_with_len}
 use Rattle.std.specs.declared.alloc.AllocError.{AllocError}
 use Rattle.std.specs.Ordering.{int_cmp, is_eq, ordering_then, MatchOrdering}

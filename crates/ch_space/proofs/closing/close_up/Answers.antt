@@ -1,4 +1,4 @@
-use Rattle.std.proofs.Common.{◌≡◌, sym, ap, ◌∙◌, subst, length, map, arith}
+use Rattle.std.proofs.Common.{sym, ap, ◌∙◌, subst, length, map, arith}
 use Rattle.ch_timed.specs.Closed.{closed_up}
 use Rattle.ch_space.specs.Keeps.{IsSpace, places_of}
 use Rattle.ch_space.specs.Listed.{Listed}

@@ -1,4 +1,4 @@
-use Rattle.std.proofs.Common.{◌≡◌, ◌<◌, ◌≤◌, ◌+◌, ◌-◌, ap, sym, ◌∙◌, length, map, get_or, arith}
+use Rattle.std.proofs.Common.{◌-◌, ap, sym, ◌∙◌, length, map, get_or, arith}
 use Rattle.ch_space.specs.Keeps.{places_of}
 use Rattle.ch_space.proofs.ClosedPieces.{rank_length}
 use Rattle.ch_space.proofs.PlacesInOrder.{so_many, rank_before, rank_here, rank_there, rank_small, ranks_more}

@@ -1,4 +1,4 @@
-use Rattle.std.proofs.Common.{◌≡◌, length, map, take}
+use Rattle.std.proofs.Common.{map, take}
 use Rattle.ch_space.specs.Keeps.{places_of}
 use Rattle.ch_space.specs.Renumbered.{AreRanks}
 use Rattle.ch_space.proofs.closing.closed_places.Given as goal

@@ -1,5 +1,4 @@
-use Rattle.std.proofs.Common.{◌≡◌, ◌<◌, ◌≤◌, ◌++◌, ℕ, List, [], drop, ap, sym, ◌∙◌, subst, length, arith}
-use Rattle.ch_space.specs.Renumbered.{next_places}
+use Rattle.std.proofs.Common.{◌≡◌, ◌≤◌, [], ap, sym, ◌∙◌, subst, length, arith}
 use Rattle.ch_space.proofs.NextPlaces.{all_numbers, numbers_zero, numbers_same, numbers_next, at_like}
 use Rattle.ch_space.proofs.closing.numbers_after.Goals as goal
 use Rattle.ch_space.proofs.closing.numbers_after.Goals.{then-like-k+in_ok-push, else-like-k+then-like-k-2+in_ok-push-2, else-like-k+else-like-k-2+in_ok-push-3}

@@ -1,4 +1,4 @@
-use Rattle.std.proofs.Common.{◌≡◌, ◌≤◌, refl, sym, ap, ◌∙◌, length, length-append, length-set, arith}
+use Rattle.std.proofs.Common.{refl, ap, length, length-append, length-set, arith}
 use Rattle.ch_space.proofs.ClosedPieces.{one_placed, all_placed_now}
 use Rattle.ch_space.proofs.closing.place_all.Goals as goal
 

@@ -1,4 +1,4 @@
-use Rattle.std.proofs.Common.{◌≡◌, ◌<◌, refl, sym, ap, ◌∙◌, subst, ℕ, Some, IfOk, get_or}
+use Rattle.std.proofs.Common.{◌≡◌, refl, ap, ◌∙◌, subst, Some, IfOk, get_or}
 use Rattle.ch_poly.specs.Points.{first}
 use Rattle.ch_space.specs.Members.{identities, last}
 use Rattle.ch_space.specs.Pieces.{elements}

@@ -1,4 +1,4 @@
-use Rattle.std.proofs.Common.{◌≡◌, sym, ap, ◌∙◌, subst, Some}
+use Rattle.std.proofs.Common.{sym, ap, ◌∙◌, subst, Some}
 use Rattle.ch_timed.specs.Members.{In}
 use Rattle.ch_space.specs.Pieces.{instances, element_at}
 use Rattle.ch_space.proofs.EndsOf.{first_in, last_in, first_identity, last_identity}

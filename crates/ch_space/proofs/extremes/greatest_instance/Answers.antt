@@ -1,4 +1,4 @@
-use Rattle.std.proofs.Common.{◌≡◌, sym, ◌∙◌, subst}
+use Rattle.std.proofs.Common.{sym, ◌∙◌, subst}
 use Rattle.ch_affine.specs.Rows.{IsSystem}
 use Rattle.ch_space.proofs.EndsOf.{bound_turned, greatest_ok, front_small, no_turned}
 use Rattle.ch_space.proofs.extremes.greatest_instance.Goals as goal

@@ -1,5 +1,5 @@
-use Rattle.std.proofs.Common.{◌≡◌, sym, ap, ◌∙◌, subst, length, List, ℤ, ◌∷◌, [], ◌++◌, ◌^◌, arith}
-use Rattle.std.proofs.lemmas.Int.{ints, to_z-of_z}
+use Rattle.std.proofs.Common.{◌^◌, arith}
+use Rattle.std.proofs.lemmas.Int.{ints}
 use Rattle.ch_affine.specs.Affine.{IsAtMost}
 use Rattle.ch_space.proofs.EndsOf.{instance_small, same_at, value_at, iters_more}
 use Rattle.ch_space.proofs.extremes.identity_at.Goals as goal

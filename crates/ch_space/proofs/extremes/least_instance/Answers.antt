@@ -1,4 +1,4 @@
-use Rattle.std.proofs.Common.{◌≡◌, sym, ◌∙◌}
+use Rattle.std.proofs.Common.{sym, ◌∙◌}
 use Rattle.ch_space.proofs.EndsOf.{bound_front, least_ok, some_point}
 use Rattle.ch_space.proofs.extremes.least_instance.Goals as goal
 

@@ -1,4 +1,4 @@
-use Rattle.std.proofs.Common.{◌≡◌, pos, get_or, arith}
+use Rattle.std.proofs.Common.{pos, get_or, arith}
 use Rattle.std.proofs.lemmas.Int.{ints}
 use Rattle.ch_affine.specs.Rows.{IsBox}
 use Rattle.ch_affine.specs.declared.system.Range.{Range}

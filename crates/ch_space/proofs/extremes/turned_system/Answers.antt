@@ -1,4 +1,4 @@
-use Rattle.std.proofs.Common.{◌≡◌, ap, length, arith}
+use Rattle.std.proofs.Common.{ap, length, arith}
 use Rattle.ch_affine.specs.Rows.{system}
 use Rattle.ch_space.proofs.Turning.{system_turned}
 use Rattle.ch_space.proofs.extremes.turned_system.Goals as goal

@@ -1,7 +1,7 @@
-use Rattle.std.proofs.Common.{◌≡◌, refl, sym, ap, ◌∙◌, ℕ, length, arith}
+use Rattle.std.proofs.Common.{ap, length, arith}
 use Rattle.ch_space.specs.Listed.{Listed}
-use Rattle.ch_space.proofs.PieceNumbers.{list_length, few_pieces}
-use Rattle.ch_space.proofs.Readings.{count_is, below_pieces, below_counts, places_at, label_at, counted_at, grouped}
+use Rattle.ch_space.proofs.PieceNumbers.{few_pieces}
+use Rattle.ch_space.proofs.Readings.{below_pieces, grouped}
 use Rattle.ch_space.proofs.reading.group.Goals as goal
 
 pub bounds-all-number : goal.bounds-all-number

@@ -1,7 +1,6 @@
-use Rattle.std.proofs.Common.{◌≡◌, refl, sym, ap, ◌∙◌, ℕ, length, arith}
+use Rattle.std.proofs.Common.{ap}
 use Rattle.ch_space.specs.Listed.{Listed}
-use Rattle.ch_space.proofs.PieceNumbers.{list_length, few_pieces}
-use Rattle.ch_space.proofs.Readings.{count_is, below_pieces, below_counts, places_at, label_at, counted_at, group_at}
+use Rattle.ch_space.proofs.Readings.{below_pieces, label_at}
 use Rattle.ch_space.proofs.reading.label.Goals as goal
 
 pub bounds-as_slice-number : goal.bounds-as_slice-number

@@ -1,4 +1,4 @@
-use Rattle.std.proofs.Common.{◌≡◌, sym, ◌∙◌, true, false, append-nil}
+use Rattle.std.proofs.Common.{sym, ◌∙◌, true, false, append-nil}
 use Rattle.ch_space.proofs.Readings.{sharing_step}
 use Rattle.ch_space.proofs.reading.numbers_sharing.Goals as goal
 use Rattle.ch_space.proofs.reading.numbers_sharing.Goals.{then-share+in_ok-push, else-share}

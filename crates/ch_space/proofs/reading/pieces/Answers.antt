@@ -1,7 +1,7 @@
-use Rattle.std.proofs.Common.{◌≡◌, refl, sym, ap, ◌∙◌, ℕ, length, arith}
+use Rattle.std.proofs.Common.{sym, ap, ◌∙◌, arith}
 use Rattle.ch_space.specs.Listed.{Listed}
-use Rattle.ch_space.proofs.PieceNumbers.{list_length, few_pieces}
-use Rattle.ch_space.proofs.Readings.{count_is, below_pieces, below_counts, places_at, label_at, counted_at, group_at}
+use Rattle.ch_space.proofs.PieceNumbers.{few_pieces}
+use Rattle.ch_space.proofs.Readings.{count_is}
 use Rattle.ch_space.proofs.reading.pieces.Goals as goal
 
 pub overflow_cast-result : goal.overflow_cast-result
