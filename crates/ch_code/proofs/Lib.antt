@@ -1,2 +1,5 @@
+pub mod ReadForms
+pub mod ReadHeads
+pub mod ReadLists
 pub mod Rolls
 pub mod Steps

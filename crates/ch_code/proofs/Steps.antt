@@ -22,7 +22,7 @@ times_other (suc (suc n)) h = refl
 pub sum_more : (letter : ℕ) (first : Bool) (coefs : List ℤ) (constant d : ℤ) (k : ℕ) (out next whole : List ℕ) → k < length coefs
     → next ≡ out ++ term_text letter first (k + 1) (get_or coefs k d)
     → out ++ sum_text letter first (k + 1) (drop k coefs) constant ≡ whole
-    → next ++ sum_text letter (first && is_zero (get_or coefs k d)) (k + 1 + 1) (drop (k + 1) coefs) constant ≡ whole
+    → next ++ sum_text letter (is_zero (get_or coefs k d) && first) (k + 1 + 1) (drop (k + 1) coefs) constant ≡ whole
 sum_more letter first coefs constant d k out next whole l e h =
     let s : k + 1 + 1 ≡ suc (k + 1) = omega arith in
     let a = rw (drop_more coefs k d l) at h in
@@ -93,7 +93,7 @@ own_inside arrays n h = elim (cases_lt n (length arrays)) as (λ _. n < length a
   | inr past ↦ absurd (both_ways _ (own_past arrays n past) h)
 ]
 
-pub divided_other : (rounding : List ℕ) (n : ℕ) (form : List ℕ) → (n ≡ 1 → ⊥) → divided_text rounding n form ≡ rounding ++ codes "(" ++ form ++ codes " / " ++ number_text n ++ codes ")"
+pub divided_other : (rounding : List ℕ) (n : ℕ) (form : List ℕ) → (n ≡ 1 → ⊥) → divided_text rounding n form ≡ rounding ++ codes "((" ++ form ++ codes ") / " ++ number_text n ++ codes ")"
 divided_other rounding zero form h = refl
 divided_other rounding (suc zero) form h = absurd (h refl)
 divided_other rounding (suc (suc n)) form h = refl
