@@ -1,4 +1,5 @@
 pub mod ReadForms
+pub mod ReadGuards
 pub mod ReadHeads
 pub mod ReadLists
 pub mod Rolls
