@@ -1,3 +1,5 @@
+pub mod ReadBodies
+pub mod ReadExprs
 pub mod ReadForms
 pub mod ReadGuards
 pub mod ReadHeads
