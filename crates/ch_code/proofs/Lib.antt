@@ -1,4 +1,5 @@
 pub mod ReadBodies
+pub mod ReadCode
 pub mod ReadExprs
 pub mod ReadForms
 pub mod ReadGuards
