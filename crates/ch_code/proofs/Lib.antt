@@ -5,5 +5,6 @@ pub mod ReadForms
 pub mod ReadGuards
 pub mod ReadHeads
 pub mod ReadLists
+pub mod ReadUnit
 pub mod Rolls
 pub mod Steps

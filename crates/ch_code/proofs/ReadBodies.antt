@@ -38,7 +38,7 @@ read_modular n f g zero (suc j) r q e = absurd (starts_apart (λ b. nat_eq 40 b 
 read_modular n f g (suc i) zero r q e = absurd (starts_apart (λ b. nat_eq 40 b || nat_eq 93 b) _ _ (form_first n g _) refl (sym e ∙ modular_is (form_text original n f) i (93 ∷ r)))
 read_modular n f g (suc i) (suc j) r q e =
     let s = read_sub_form n f g (codes ") mod " ++ (number_text (suc i) ++ 93 ∷ r)) (codes ") mod " ++ (number_text (suc j) ++ 93 ∷ q)) refl refl
-        (append_cancel_left (codes "(") _ _ (sym (modular_is (form_text original n f) i (93 ∷ r)) ∙ e ∙ modular_is (form_text original n g) j (93 ∷ q))) in
+    (append_cancel_left (codes "(") _ _ (sym (modular_is (form_text original n f) i (93 ∷ r)) ∙ e ∙ modular_is (form_text original n g) j (93 ∷ q))) in
     let t = read_number (suc i) (suc j) (93 ∷ r) (93 ∷ q) refl refl (append_cancel_left (codes ") mod ") _ _ (s.1)) in
     (s.0, t.0, behind_one _ _ _ _ (t.1))
 
@@ -68,7 +68,7 @@ modular_first n f (suc m) r = ap (stops (nat_eq 93)) (modular_is (form_text orig
 no_subs : (n : ℕ) (s : sub.Sub) (ss : List sub.Sub) (r q : List ℕ) → codes "[]" ++ r ≡ flat_map (sub_text n) (s ∷ ss) ++ q → ⊥
 no_subs n s ss r q e =
     starts_apart (nat_eq 93) _ (93 ∷ r) (modular_first n s.form s.modulus _) refl
-        (sym (append_cancel_left (codes "[") _ _ (e ∙ append_assoc (sub_text n s) (flat_map (sub_text n) ss) q ∙ sub_is n s _)))
+    (sym (append_cancel_left (codes "[") _ _ (e ∙ append_assoc (sub_text n s) (flat_map (sub_text n) ss) q ∙ sub_is n s _)))
 
 read_subs : (n : ℕ) (ss ts : List sub.Sub) (r q : List ℕ) → leads 91 r ≡ false → leads 91 q ≡ false → subs_text n ss ++ r ≡ subs_text n ts ++ q → (ss ≡ ts) × (r ≡ q)
 read_subs n [] [] r q hr hq e = (refl, append_cancel_left (codes "[]") r q e)
@@ -76,7 +76,7 @@ read_subs n [] (t ∷ ts) r q hr hq e = absurd (no_subs n t ts r q e)
 read_subs n (s ∷ ss) [] r q hr hq e = absurd (no_subs n s ss q r (sym e))
 read_subs n (s ∷ ss) (t ∷ ts) r q hr hq e =
     read_all (λ k. sub_text n) (λ k. flat_map (sub_text n)) (λ k. refl) (λ k x xs. refl) (leads 91) (λ t. Unit {0}) (λ k x t. sub_leads n x t) (λ k x t. tt) (λ k x y r q hr hq. read_sub n x y r q)
-        0 (s ∷ ss) (t ∷ ts) r q hr hq tt tt e
+    0 (s ∷ ss) (t ∷ ts) r q hr hq tt tt e
 
 subs_open : (n : ℕ) (ss : List sub.Sub) (r : List ℕ) → (x : List ℕ) × (subs_text n ss ++ r ≡ 91 ∷ x)
 subs_open n [] r = (93 ∷ r, refl)
@@ -133,8 +133,8 @@ read_other count m n r q hr hq e = elim (other_cases count m) as (λ _. (m ≡ n
   | inr x ↦ elim (other_cases count n) as (λ _. (m ≡ n) × (r ≡ q)) [
     | inl y ↦ absurd (differ 0 _ _ refl (sym (named r _ _ (x.1)) ∙ e ∙ named q _ _ (y.1)))
     | inr y ↦
-      let s = read_number (m - count) (n - count) r q hr hq (append_cancel_left (codes "T:") _ _ (sym (named r _ _ (x.1)) ∙ e ∙ named q _ _ (y.1))) in
-      (omega (arith, s.0, x.0, y.0), s.1)
+        let s = read_number (m - count) (n - count) r q hr hq (append_cancel_left (codes "T:") _ _ (sym (named r _ _ (x.1)) ∙ e ∙ named q _ _ (y.1))) in
+        (omega (arith, s.0, x.0, y.0), s.1)
   ]
 ]
 
@@ -153,24 +153,24 @@ pub own_apart : (name : List ℕ) (count n : ℕ) (x q : List ℕ) → is_plain 
 own_apart name count n x q h e = elim (other_cases count n) as (λ _. ⊥) [
   | inl y ↦ starts_apart is_word (35 ∷ (number_text n ++ q)) _ refl (plain_first name (91 ∷ x) h) (sym (e ∙ named q _ _ (y.1)))
   | inr y ↦
-    let s = same_run is_word name (84 ∷ []) (91 ∷ x) (58 ∷ (number_text (n - count) ++ q)) (plain_words name h) refl refl refl (e ∙ named q _ _ (y.1)) in
-    differ 0 _ _ refl (s.1)
+      let s = same_run is_word name (84 ∷ []) (91 ∷ x) (58 ∷ (number_text (n - count) ++ q)) (plain_words name h) refl refl refl (e ∙ named q _ _ (y.1)) in
+      differ 0 _ _ refl (s.1)
 ]
 
 read_array : (arrays : List ArrayDecl) (m n : ℕ) (r q : List ℕ) → array_text arrays m ++ 91 ∷ r ≡ array_text arrays n ++ 91 ∷ q → (m ≡ n) × (r ≡ q)
 read_array arrays m n r q e = elim (own_cases arrays m) as (λ _. (m ≡ n) × (r ≡ q)) [
   | inl x ↦ elim (own_cases arrays n) as (λ _. (m ≡ n) × (r ≡ q)) [
     | inl y ↦
-      let s = same_run is_word (nth_name arrays m) (nth_name arrays n) (91 ∷ r) (91 ∷ q) (plain_words (nth_name arrays m) (own_plain arrays m (x.0))) (plain_words (nth_name arrays n) (own_plain arrays n (y.0))) refl refl
-          (sym (named (91 ∷ r) _ _ (x.1)) ∙ e ∙ named (91 ∷ q) _ _ (y.1)) in
-      (own_same arrays m n (x.0) (y.0) (s.0), behind_one _ _ _ _ (s.1))
+        let s = same_run is_word (nth_name arrays m) (nth_name arrays n) (91 ∷ r) (91 ∷ q) (plain_words (nth_name arrays m) (own_plain arrays m (x.0))) (plain_words (nth_name arrays n) (own_plain arrays n (y.0))) refl refl
+        (sym (named (91 ∷ r) _ _ (x.1)) ∙ e ∙ named (91 ∷ q) _ _ (y.1)) in
+        (own_same arrays m n (x.0) (y.0) (s.0), behind_one _ _ _ _ (s.1))
     | inr y ↦ absurd (own_apart (nth_name arrays m) (length arrays) n r (91 ∷ q) (own_plain arrays m (x.0)) (sym (named (91 ∷ r) _ _ (x.1)) ∙ e ∙ named (91 ∷ q) _ _ y))
   ]
   | inr x ↦ elim (own_cases arrays n) as (λ _. (m ≡ n) × (r ≡ q)) [
     | inl y ↦ absurd (own_apart (nth_name arrays n) (length arrays) m q (91 ∷ r) (own_plain arrays n (y.0)) (sym (sym (named (91 ∷ r) _ _ x) ∙ e ∙ named (91 ∷ q) _ _ (y.1))))
     | inr y ↦
-      let s = read_other (length arrays) m n (91 ∷ r) (91 ∷ q) refl refl (sym (named (91 ∷ r) _ _ x) ∙ e ∙ named (91 ∷ q) _ _ y) in
-      (s.0, behind_one _ _ _ _ (s.1))
+        let s = read_other (length arrays) m n (91 ∷ r) (91 ∷ q) refl refl (sym (named (91 ∷ r) _ _ x) ∙ e ∙ named (91 ∷ q) _ _ y) in
+        (s.0, behind_one _ _ _ _ (s.1))
   ]
 ]
 

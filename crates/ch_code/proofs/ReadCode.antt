@@ -37,7 +37,7 @@ origin_is n k f r = simp append_assoc
 read_origin : (n k : ℕ) (f g : Form) (r q : List ℕ) → goes_on r ≡ false → goes_on q ≡ false → origin_text n k f ++ r ≡ origin_text n k g ++ q → (f ≡ g) × (r ≡ q)
 read_origin n k f g r q hr hq e =
     read_loop_form n f g r q hr hq
-        (append_cancel_left (codes " = ") _ _ (append_cancel_left (number_text k) _ _ (append_cancel_left (codes "i") _ _ (sym (origin_is n k f r) ∙ e ∙ origin_is n k g q))))
+    (append_cancel_left (codes " = ") _ _ (append_cancel_left (number_text k) _ _ (append_cancel_left (codes "i") _ _ (sym (origin_is n k f r) ∙ e ∙ origin_is n k g q))))
 
 origins_go : (n k : ℕ) (fs : List Form) (r : List ℕ) → goes_on (more_origins_text n k fs ++ 41 ∷ r) ≡ false
 origins_go n k [] r = refl
@@ -46,7 +46,7 @@ origins_go n k (f ∷ fs) r = refl
 read_more_origins : (n k : ℕ) (fs gs : List Form) (r q : List ℕ) → more_origins_text n k fs ++ 41 ∷ r ≡ more_origins_text n k gs ++ 41 ∷ q → (fs ≡ gs) × (r ≡ q)
 read_more_origins n k fs gs r q e =
     let s = read_all (λ k f. codes ", " ++ origin_text n k f) (more_origins_text n) (λ k. refl) (λ k x xs. refl) (leads 44) (λ t. goes_on t ≡ false) (λ k x t. refl) (λ k x t. refl)
-        (λ k x y r q hr hq d. read_origin n k x y r q hr hq (append_cancel_left (codes ", ") _ _ d)) k fs gs (41 ∷ r) (41 ∷ q) refl refl refl refl e in
+    (λ k x y r q hr hq d. read_origin n k x y r q hr hq (append_cancel_left (codes ", ") _ _ d)) k fs gs (41 ∷ r) (41 ∷ q) refl refl refl refl e in
     (s.0, behind_one _ _ _ _ (s.1))
 
 read_origins : (n : ℕ) (fs gs : List Form) (r q : List ℕ) → origins_text n fs ++ 41 ∷ r ≡ origins_text n gs ++ 41 ∷ q → (fs ≡ gs) × (r ≡ q)
@@ -55,7 +55,7 @@ read_origins n [] (g ∷ gs) r q e = absurd (differ 0 _ _ refl (e ∙ append_ass
 read_origins n (f ∷ fs) [] r q e = absurd (differ 0 _ _ refl (sym e ∙ append_assoc (origin_text n 1 f) (more_origins_text n 2 fs) (41 ∷ r) ∙ origin_is n 1 f _))
 read_origins n (f ∷ fs) (g ∷ gs) r q e =
     let s = read_origin n 1 f g (more_origins_text n 2 fs ++ 41 ∷ r) (more_origins_text n 2 gs ++ 41 ∷ q) (origins_go n 2 fs r) (origins_go n 2 gs q)
-        (sym (append_assoc (origin_text n 1 f) (more_origins_text n 2 fs) (41 ∷ r)) ∙ e ∙ append_assoc (origin_text n 1 g) (more_origins_text n 2 gs) (41 ∷ q)) in
+    (sym (append_assoc (origin_text n 1 f) (more_origins_text n 2 fs) (41 ∷ r)) ∙ e ∙ append_assoc (origin_text n 1 g) (more_origins_text n 2 gs) (41 ∷ q)) in
     let t = read_more_origins n 2 fs gs r q (s.1) in
     (ap (λ z. z ∷ fs) (s.0) ∙ ap (λ zs. g ∷ zs) (t.0), t.1)
 
@@ -78,7 +78,7 @@ read_instance n a b fs gs r q e =
 read_places : (ps qs : List ℕ) (r q : List ℕ) → flat_map place_text ps ++ 58 ∷ r ≡ flat_map place_text qs ++ 58 ∷ q → (ps ≡ qs) × (r ≡ q)
 read_places ps qs r q e =
     let s = read_all (λ k. place_text) (λ k. flat_map place_text) (λ k. refl) (λ k x xs. refl) (leads 32) (λ t. stops is_digit t ≡ true) (λ k x t. refl) (λ k x t. refl)
-        (λ k x y r q hr hq d. read_number x y r q hr hq (append_cancel_left (codes " ") _ _ d)) 0 ps qs (58 ∷ r) (58 ∷ q) refl refl refl refl e in
+    (λ k x y r q hr hq d. read_number x y r q hr hq (append_cancel_left (codes " ") _ _ d)) 0 ps qs (58 ∷ r) (58 ∷ q) refl refl refl refl e in
     (s.0, behind_one _ _ _ _ (s.1))
 
 module _ (arrays : List ArrayDecl) where
@@ -97,7 +97,7 @@ module _ (arrays : List ArrayDecl) where
       let s = read_instance n a b fs gs _ _ (sym (leaf_is n a x fs ps r) ∙ e ∙ leaf_is n b y gs qs q) in
       let t = read_places ps qs (32 ∷ (body_text arrays (length fs) x ++ 10 ∷ r)) (32 ∷ (body_text arrays (length gs) y ++ 10 ∷ q)) (append_cancel_left (codes " at") _ _ (s.2)) in
       let u = read_body arrays (length gs) x y (10 ∷ r) (10 ∷ q) refl refl
-          (sym (ap (λ zs. body_text arrays (length zs) x ++ 10 ∷ r) (s.1)) ∙ behind_one _ _ _ _ (t.1)) in
+      (sym (ap (λ zs. body_text arrays (length zs) x ++ 10 ∷ r) (s.1)) ∙ behind_one _ _ _ _ (t.1)) in
       (s.0, u.0, s.1, t.0, behind_one _ _ _ _ (u.1))
 
 -- margins
@@ -141,7 +141,7 @@ label_starts (Stmt i) r = (83, _, (refl, refl))
 label_starts (Move i) r = (77, _, (refl, refl))
 
 module _ (arrays : List ArrayDecl) where
-  abbrev text : Code → Printed
+  abbrev pub text : Code → Printed
   text = code_text arrays
 
   abbrev Clear : Code → Type 0
@@ -153,13 +153,13 @@ module _ (arrays : List ArrayDecl) where
   abbrev bare : Known → Code
   bare e = e.0
 
-  abbrev layer : Code-F Code → Printed
+  abbrev pub layer : Code-F Code → Printed
   layer z = code_layer arrays (map-Code Code Printed text z)
 
   rolled : (z : Code-F Code) (behind : Bool) (level around : ℕ) → text (roll-Code z) behind level around ≡ layer z behind level around
   rolled z behind level around = ap (λ f. f behind level around) (fold-roll-Code Printed (code_layer arrays) z)
 
-  opened : (y : Code) (behind : Bool) (level around : ℕ) (q : List ℕ) → text y behind level around ++ q ≡ layer (out-Code y) behind level around ++ q
+  pub opened : (y : Code) (behind : Bool) (level around : ℕ) (q : List ℕ) → text y behind level around ++ q ≡ layer (out-Code y) behind level around ++ q
   opened y behind level around q = ap (λ t. t ++ q) (ap (λ c. text c behind level around) (sym (roll-out-Code y)) ∙ rolled (out-Code y) behind level around)
 
   seq_is : (parts : List Code) (behind : Bool) (level around : ℕ) (r : List ℕ)
@@ -193,13 +193,12 @@ module _ (arrays : List ArrayDecl) where
   begun (Code-F.Loop number lows highs inner) behind level around r = (102, _, (loop_is number lows highs inner behind level around r, refl))
   begun (Code-F.Guard system inner) behind level around r = (105, _, (guard_is system inner behind level around r, refl))
   begun (Code-F.Leaf label body origin places) behind level around r =
-      let l = label_starts label _ in
-      (
+      let l = label_starts label _ in (
         l.0,
         l.1,
         (
           leaf_at label body origin places behind level around r
-          ∙ ap (λ t. lead behind level ++ t) (leaf_is arrays around label body origin places r ∙ instance_is around label origin _ ∙ l.2.0),
+              ∙ ap (λ t. lead behind level ++ t) (leaf_is arrays around label body origin places r ∙ instance_is around label origin _ ∙ l.2.0),
           l.2.1,
         ),
       )
@@ -246,8 +245,8 @@ module _ (arrays : List ArrayDecl) where
       absurd (part_apart (bare k) level around q _ (sym e ∙ append_assoc (text (bare k) false (suc level) around) (parts_text (map text (map bare ks)) (suc level) around) _))
   read_parts (k ∷ ks) (y ∷ ys) level around r q e =
       let s = k.1 y false (suc level) around _ _
-          (sym (append_assoc (text (bare k) false (suc level) around) (parts_text (map text (map bare ks)) (suc level) around) (margin level ++ 125 ∷ r))
-          ∙ e ∙ append_assoc (text y false (suc level) around) (parts_text (map text ys) (suc level) around) (margin level ++ 125 ∷ q)) in
+      (sym (append_assoc (text (bare k) false (suc level) around) (parts_text (map text (map bare ks)) (suc level) around) (margin level ++ 125 ∷ r))
+      ∙ e ∙ append_assoc (text y false (suc level) around) (parts_text (map text ys) (suc level) around) (margin level ++ 125 ∷ q)) in
       let t = read_parts ks ys level around r q (s.1) in
       (ap (λ z. z ∷ map bare ks) (s.0) ∙ ap (λ zs. y ∷ zs) (t.0), t.1)
 

@@ -84,7 +84,7 @@ plain_no_digit (b ∷ bs) r h = (and_parts _ _ h).0
 array_shape : (arrays : List ArrayDecl) (n : ℕ) (r : List ℕ) → text_shape (array_text arrays n ++ r) ≡ 0
 array_shape arrays n r = elim (own_cases arrays n) as (λ _. text_shape (array_text arrays n ++ r) ≡ 0) [
   | inl x ↦ ap text_shape (named r (array_text arrays n) (nth_name arrays n) (x.1))
-    ∙ name_shape (nth_name arrays n ++ r) (plain_first (nth_name arrays n) r (own_plain arrays n (x.0))) (plain_no_digit (nth_name arrays n) r (own_plain arrays n (x.0)))
+      ∙ name_shape (nth_name arrays n ++ r) (plain_first (nth_name arrays n) r (own_plain arrays n (x.0))) (plain_no_digit (nth_name arrays n) r (own_plain arrays n (x.0)))
   | inr x ↦ elim (other_cases (length arrays) n) as (λ _. text_shape (array_text arrays n ++ r) ≡ 0) [
     | inl y ↦ ap text_shape (named r (array_text arrays n) _ (x ∙ y.1))
     | inr y ↦ ap text_shape (named r (array_text arrays n) _ (x ∙ y.1))
@@ -144,9 +144,9 @@ module _ (arrays : List ArrayDecl) (n : ℕ) where
       let to : variable_text original (suc k) ++ r ≡ array_text arrays a.array ++ 91 ∷ x.0 = e ∙ x.1.0 in
       elim (own_cases arrays a.array) as (λ _. ⊥) [
         | inl o ↦
-          let s = same_run is_word (variable_text original (suc k)) (nth_name arrays a.array) r (91 ∷ x.0) (digit_words (number_text (suc k)) (all_digits (suc k))) (plain_words (nth_name arrays a.array) (own_plain arrays a.array (o.0)))
-              (text_words r h) refl (to ∙ named (91 ∷ x.0) _ _ (o.1)) in
-          starts_apart is_text r (91 ∷ x.0) h refl (s.1)
+            let s = same_run is_word (variable_text original (suc k)) (nth_name arrays a.array) r (91 ∷ x.0) (digit_words (number_text (suc k)) (all_digits (suc k))) (plain_words (nth_name arrays a.array) (own_plain arrays a.array (o.0)))
+            (text_words r h) refl (to ∙ named (91 ∷ x.0) _ _ (o.1)) in
+            starts_apart is_text r (91 ∷ x.0) h refl (s.1)
         | inr o ↦ elim (other_cases (length arrays) a.array) as (λ _. ⊥) [
           | inl y ↦ differ 0 _ _ refl (to ∙ named (91 ∷ x.0) _ _ (o ∙ y.1))
           | inr y ↦ differ 0 _ _ refl (to ∙ named (91 ∷ x.0) _ _ (o ∙ y.1))
@@ -157,7 +157,7 @@ module _ (arrays : List ArrayDecl) (n : ℕ) where
       → infix_text (text (bare a)) o u ++ r ≡ infix_text (text x) p v ++ q → (bare a ≡ x) × (o ++ (u ++ (codes ")" ++ r)) ≡ p ++ (v ++ (codes ")" ++ q)))
   read_left a x o p u v r q ho hp e =
       a.1 x (o ++ (u ++ (codes ")" ++ r))) (p ++ (v ++ (codes ")" ++ q))) (ho _) (hp _)
-          (append_cancel_left (codes "(") _ _ (sym (infix_is (text (bare a)) o u r) ∙ e ∙ infix_is (text x) p v q))
+      (append_cancel_left (codes "(") _ _ (sym (infix_is (text (bare a)) o u r) ∙ e ∙ infix_is (text x) p v q))
 
   read_infix : (a b : Known) (x y : Expr) (o r q : List ℕ) → ((t : List ℕ) → stops is_text (o ++ t) ≡ true)
       → infix_text (text (bare a)) o (text (bare b)) ++ r ≡ infix_text (text x) o (text y) ++ q → (bare a ≡ x) × (bare b ≡ y) × (r ≡ q)

@@ -80,7 +80,7 @@ module _ (letter : ℕ) (no_digit : is_digit letter ≡ false) (no_minus : nat_e
   both_long : (m n : ℕ) (a b : List ℕ) → (number_text m ++ codes "*") ++ letter ∷ a ≡ (number_text n ++ codes "*") ++ letter ∷ b → (m ≡ n) × (a ≡ b)
   both_long m n a b e =
       let s = read_number m n (42 ∷ letter ∷ a) (42 ∷ letter ∷ b) refl refl
-          (sym (append_assoc (number_text m) (codes "*") (letter ∷ a)) ∙ e ∙ append_assoc (number_text n) (codes "*") (letter ∷ b)) in
+      (sym (append_assoc (number_text m) (codes "*") (letter ∷ a)) ∙ e ∙ append_assoc (number_text n) (codes "*") (letter ∷ b)) in
       (s.0, behind_one _ _ _ _ (behind_one _ _ _ _ (s.1)))
 
   read_times : (m n : ℕ) (a b : List ℕ) → times_text m ++ letter ∷ a ≡ times_text n ++ letter ∷ b → (m ≡ n) × (a ≡ b)
@@ -179,7 +179,7 @@ module _ (letter : ℕ) (no_digit : is_digit letter ≡ false) (no_minus : nat_e
       → written first c j ++ sum_text letter false (suc j) cs z ++ r ≡ written first d k ++ q → ⊥
   later first c cs j k z d r q l hr hq e =
       let s = read_written first c d j k (sum_text letter false (suc j) cs z ++ r) q (rest_stops (suc j) cs z r hr) hq
-          (sym (append_assoc (written first c j) (sum_text letter false (suc j) cs z) r) ∙ e) in
+      (sym (append_assoc (written first c j) (sum_text letter false (suc j) cs z) r) ∙ e) in
       omega (arith, s.1)
 
   -- the variables before the j-th don't appear any more
@@ -195,14 +195,14 @@ module _ (letter : ℕ) (no_digit : is_digit letter ≡ false) (no_minus : nat_e
       → (c ≡ d) × (sum_text letter false (suc k) cs z ++ r ≡ sum_text letter false (suc k) ds w ++ q)
   both_written first c d cs ds k z w r q hr hq e =
       let s = read_written first c d k k (sum_text letter false (suc k) cs z ++ r) (sum_text letter false (suc k) ds w ++ q) (rest_stops (suc k) cs z r hr) (rest_stops (suc k) ds w q hq)
-          (sym (append_assoc (written first c k) (sum_text letter false (suc k) cs z) r) ∙ e ∙ append_assoc (written first d k) (sum_text letter false (suc k) ds w) q) in
+      (sym (append_assoc (written first c k) (sum_text letter false (suc k) cs z) r) ∙ e ∙ append_assoc (written first d k) (sum_text letter false (suc k) ds w) q) in
       (s.0, s.2)
 
   one_written : (first : Bool) (d : ℤ) (cs ds : List ℤ) (k : ℕ) (z w : ℤ) (r q : List ℕ) → goes_on r ≡ false → goes_on q ≡ false
       → sum_text letter first (suc k) cs z ++ r ≡ written first d k ++ sum_text letter false (suc k) ds w ++ q → ⊥
   one_written first d cs ds k z w r q hr hq e =
       no_earlier first cs (suc k) k z d r (sum_text letter false (suc k) ds w ++ q) (omega arith) hr (rest_stops (suc k) ds w q hq)
-          (e ∙ append_assoc (written first d k) (sum_text letter false (suc k) ds w) q)
+      (e ∙ append_assoc (written first d k) (sum_text letter false (suc k) ds w) q)
 
   abbrev SameSums : List ℤ → List ℤ → ℤ → ℤ → List ℕ → List ℕ → Type 0
   SameSums cs ds z w r q = (cs ≡ ds) × (z ≡ w) × (r ≡ q)
@@ -265,8 +265,8 @@ module _ (letter : ℕ) (no_digit : is_digit letter ≡ false) (no_minus : nat_e
     | inr x ↦ elim (count_cases n b) as (λ _. (a ≡ b) × (r ≡ q)) [
       | inl y ↦ absurd (starts_apart (nat_eq 111) q _ hq refl (sym (sym (count_behind n a _ r x) ∙ e ∙ ap (λ t. t ++ q) (y.1))))
       | inr y ↦
-        let s = read_number a b (codes ": " ++ r) (codes ": " ++ q) refl refl (append_cancel_left (codes "of ") _ _ (sym (count_behind n a _ r x) ∙ e ∙ count_behind n b _ q y)) in
-        (s.0, append_cancel_left (codes ": ") r q (s.1))
+          let s = read_number a b (codes ": " ++ r) (codes ": " ++ q) refl refl (append_cancel_left (codes "of ") _ _ (sym (count_behind n a _ r x) ∙ e ∙ count_behind n b _ q y)) in
+          (s.0, append_cancel_left (codes ": ") r q (s.1))
     ]
   ]
 
@@ -277,8 +277,8 @@ module _ (letter : ℕ) (no_digit : is_digit letter ≡ false) (no_minus : nat_e
   unfolding form_text
   read_form n f g r q hr hq e =
       let s = read_count n (length f.coefs) (length g.coefs) (sum_text letter true 1 f.coefs f.constant ++ r) (sum_text letter true 1 g.coefs g.constant ++ q)
-          (sum_stops (nat_eq 111) count_digit refl no_count 1 f.coefs f.constant r) (sum_stops (nat_eq 111) count_digit refl no_count 1 g.coefs g.constant q)
-          (sym (append_assoc (count_text n (length f.coefs)) _ r) ∙ e ∙ append_assoc (count_text n (length g.coefs)) _ q) in
+      (sum_stops (nat_eq 111) count_digit refl no_count 1 f.coefs f.constant r) (sum_stops (nat_eq 111) count_digit refl no_count 1 g.coefs g.constant q)
+      (sym (append_assoc (count_text n (length f.coefs)) _ r) ∙ e ∙ append_assoc (count_text n (length g.coefs)) _ q) in
       let t = read_sum true f.coefs g.coefs 1 f.constant g.constant r q (s.0) hr hq (s.1) in
       (same_form f g (t.0) (t.1), t.2)
 
@@ -288,6 +288,6 @@ module _ (letter : ℕ) (no_digit : is_digit letter ≡ false) (no_minus : nat_e
   unfolding form_text
   form_stops kind hd hm hl ho n f r = elim (count_cases n (length f.coefs)) as (λ _. stops kind (form_text letter n f ++ r) ≡ true) [
     | inl x ↦ ap (stops kind) (append_assoc (count_text n (length f.coefs)) _ r ∙ ap (λ t. t ++ (sum_text letter true 1 f.coefs f.constant ++ r)) (x.1))
-      ∙ sum_stops kind hd hm hl 1 f.coefs f.constant r
+        ∙ sum_stops kind hd hm hl 1 f.coefs f.constant r
     | inr x ↦ ap (stops kind) (append_assoc (count_text n (length f.coefs)) _ r ∙ count_behind n (length f.coefs) _ _ x) ∙ not_from_false _ ho
   ]

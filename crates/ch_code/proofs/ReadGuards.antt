@@ -71,7 +71,7 @@ read_ranges n (x ∷ xs) [] r q cr cq hr hq e =
     absurd (starts_apart (nat_eq 116) _ (codes "true" ++ q) (range_first n 1 x _) refl (sym (append_assoc (range_text n 1 x) (more_ranges_text n 2 xs) r) ∙ e))
 read_ranges n (x ∷ xs) (y ∷ ys) r q cr cq hr hq e =
     let s = read_range n 1 x y (more_ranges_text n 2 xs ++ r) (more_ranges_text n 2 ys ++ q) (more_digits n 2 xs r hr) (more_digits n 2 ys q hq)
-        (sym (append_assoc (range_text n 1 x) (more_ranges_text n 2 xs) r) ∙ e ∙ append_assoc (range_text n 1 y) (more_ranges_text n 2 ys) q) in
+    (sym (append_assoc (range_text n 1 x) (more_ranges_text n 2 xs) r) ∙ e ∙ append_assoc (range_text n 1 y) (more_ranges_text n 2 ys) q) in
     let t = read_more_ranges n 2 xs ys r q cr cq hr hq (s.1) in
     (ap (λ z. z ∷ xs) (s.0) ∙ ap (λ zs. y ∷ zs) (t.0), t.1)
 
@@ -109,7 +109,7 @@ read_rows : (n : ℕ) (fs gs : List Form) (r q : List ℕ) → leads_with 32 97 
     → (fs ≡ gs) × (r ≡ q)
 read_rows n fs gs r q ar aq e =
     read_all (λ k. row_text n) (λ k. flat_map (row_text n)) (λ k. refl) (λ k x xs. refl) (leads_with 32 97) (λ t. Unit {0}) (λ k x t. refl) (λ k x t. tt) (λ k x y r q hr hq. read_row n x y r q)
-        0 fs gs r q ar aq tt tt e
+    0 fs gs r q ar aq tt tt e
 
 -- What stands behind a head: a line's end, or a blank and a brace.
 abbrev pub Behind : List ℕ → Type 0
@@ -142,19 +142,19 @@ same_system s u v r b = ap (λ x. system x s.rows s.boxes) v ∙ ap (λ x. syste
 pub read_if : (n : ℕ) (s u : Rows) (r q : List ℕ) → Behind r → Behind q → if_text n s ++ r ≡ if_text n u ++ q → (s ≡ u) × (r ≡ q)
 read_if n s u r q hr hq e =
     let a = read_ranges n s.boxes u.boxes _ _
-        (variables_test (leads 44) false (λ x. refl) (λ x. refl) (λ x. refl) (λ x. refl) (length s.boxes) s.vars s.vars s.rows r hr)
-        (variables_test (leads 44) false (λ x. refl) (λ x. refl) (λ x. refl) (λ x. refl) (length u.boxes) u.vars u.vars u.rows q hq)
-        (variables_test (stops is_digit) true (λ x. refl) (λ x. refl) (λ x. refl) (λ x. refl) (length s.boxes) s.vars s.vars s.rows r hr)
-        (variables_test (stops is_digit) true (λ x. refl) (λ x. refl) (λ x. refl) (λ x. refl) (length u.boxes) u.vars u.vars u.rows q hq)
-        (append_cancel_left (codes "if ") _ _ (sym (if_is n s r) ∙ e ∙ if_is n u q)) in
+    (variables_test (leads 44) false (λ x. refl) (λ x. refl) (λ x. refl) (λ x. refl) (length s.boxes) s.vars s.vars s.rows r hr)
+    (variables_test (leads 44) false (λ x. refl) (λ x. refl) (λ x. refl) (λ x. refl) (length u.boxes) u.vars u.vars u.rows q hq)
+    (variables_test (stops is_digit) true (λ x. refl) (λ x. refl) (λ x. refl) (λ x. refl) (length s.boxes) s.vars s.vars s.rows r hr)
+    (variables_test (stops is_digit) true (λ x. refl) (λ x. refl) (λ x. refl) (λ x. refl) (length u.boxes) u.vars u.vars u.rows q hq)
+    (append_cancel_left (codes "if ") _ _ (sym (if_is n s r) ∙ e ∙ if_is n u q)) in
     let b = read_variables (length u.boxes) s.vars u.vars (flat_map (row_text s.vars) s.rows ++ r) (flat_map (row_text u.vars) u.rows ++ q)
-        (rows_test (leads_with 32 111) false (λ x. refl) (λ x. refl) (λ x. refl) s.vars s.rows r hr)
-        (rows_test (leads_with 32 111) false (λ x. refl) (λ x. refl) (λ x. refl) u.vars u.rows q hq)
-        (rows_test (stops is_digit) true (λ x. refl) (λ x. refl) (λ x. refl) s.vars s.rows r hr)
-        (rows_test (stops is_digit) true (λ x. refl) (λ x. refl) (λ x. refl) u.vars u.rows q hq)
-        (sym (ap (λ bs. variables_text (length bs) s.vars ++ (flat_map (row_text s.vars) s.rows ++ r)) (a.0)) ∙ a.1) in
+    (rows_test (leads_with 32 111) false (λ x. refl) (λ x. refl) (λ x. refl) s.vars s.rows r hr)
+    (rows_test (leads_with 32 111) false (λ x. refl) (λ x. refl) (λ x. refl) u.vars u.rows q hq)
+    (rows_test (stops is_digit) true (λ x. refl) (λ x. refl) (λ x. refl) s.vars s.rows r hr)
+    (rows_test (stops is_digit) true (λ x. refl) (λ x. refl) (λ x. refl) u.vars u.rows q hq)
+    (sym (ap (λ bs. variables_text (length bs) s.vars ++ (flat_map (row_text s.vars) s.rows ++ r)) (a.0)) ∙ a.1) in
     let c = read_rows u.vars s.rows u.rows r q
-        (behind_test (leads_with 32 97) false (λ x. refl) (λ x. refl) r hr)
-        (behind_test (leads_with 32 97) false (λ x. refl) (λ x. refl) q hq)
-        (sym (ap (λ v. flat_map (row_text v) s.rows ++ r) (b.0)) ∙ b.1) in
+    (behind_test (leads_with 32 97) false (λ x. refl) (λ x. refl) r hr)
+    (behind_test (leads_with 32 97) false (λ x. refl) (λ x. refl) q hq)
+    (sym (ap (λ v. flat_map (row_text v) s.rows ++ r) (b.0)) ∙ b.1) in
     (same_system s u (b.0) (c.0) (a.0), c.1)

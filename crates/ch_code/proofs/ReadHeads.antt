@@ -117,7 +117,7 @@ module _ (rounding : List ℕ) (called : (r : List ℕ) → stops is_other (roun
     read_nexts : (bs cs : List Bound) (r q : List ℕ) → nexts bs ++ 41 ∷ r ≡ nexts cs ++ 41 ∷ q → (bs ≡ cs) × (r ≡ q)
     read_nexts bs cs r q e =
         let s = read_all (λ k. next) (λ k. nexts) (λ k. refl) (λ k x xs. refl) (leads 44) (λ t. goes_on t ≡ false) (λ k x t. refl) (λ k x t. refl) (λ k. read_next)
-            0 bs cs (41 ∷ r) (41 ∷ q) refl refl refl refl e in
+        0 bs cs (41 ∷ r) (41 ∷ q) refl refl refl refl e in
         (s.0, behind_one _ _ _ _ (s.1))
 
     read_separated : (bs cs : List Bound) (r q : List ℕ)
@@ -129,7 +129,7 @@ module _ (rounding : List ℕ) (called : (r : List ℕ) → stops is_other (roun
         absurd (starts_apart (nat_eq 41) _ (41 ∷ q) (bound_open b (nexts bs ++ 41 ∷ r)) refl (sym (append_assoc (bound_text rounding n b) (nexts bs) (41 ∷ r)) ∙ e))
     read_separated (b ∷ bs) (c ∷ cs) r q e =
         let s = read_bound b c (nexts bs ++ 41 ∷ r) (nexts cs ++ 41 ∷ q) (nexts_go bs r) (nexts_go cs q)
-            (sym (append_assoc (bound_text rounding n b) (nexts bs) (41 ∷ r)) ∙ e ∙ append_assoc (bound_text rounding n c) (nexts cs) (41 ∷ q)) in
+        (sym (append_assoc (bound_text rounding n b) (nexts bs) (41 ∷ r)) ∙ e ∙ append_assoc (bound_text rounding n c) (nexts cs) (41 ∷ q)) in
         let t = read_nexts bs cs r q (s.1) in
         (ap (λ x. x ∷ bs) (s.0) ∙ ap (λ xs. c ∷ xs) (t.0), t.1)
 

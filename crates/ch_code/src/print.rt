@@ -289,3 +289,8 @@ pub fn code_text(alloc: Global, unit: &Unit) -> Result<Text, AllocError>
     put_code(&mut out, unit.arrays.as_slice(), &unit.root, false, 0, 0)?;
     Ok(out)
 }
+
+/// States that units of one text are one, whatever is in them. It does nothing.
+pub fn texts_differ()
+    ensures { (u v : unit.Unit) → unit_text u ≡ unit_text v → u ≡ v }
+{}
