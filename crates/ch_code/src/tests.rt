@@ -1,8 +1,8 @@
-use crate::{Bound, Code, Unit, code_text};
+use crate::{Bound, Code, Unit, code_text, texts_differ};
 use ch_affine::{Aff, Boxed, List, Range, System, Text};
 use ch_nest::{Access, ArrayDecl, Body, Expr, Sub};
 use ch_timed::Label;
-use std::alloc::{AllocError, Global};
+use std::alloc::Global;
 use std::test::Fail;
 
 fn form(alloc: Global, coefs: &[i64], constant: i64) -> Result<Aff, Fail> {
@@ -111,5 +111,6 @@ fn prints_a_unit(rt: HostRuntime) -> Result<(), Fail> {
     };
     let text = code_text(alloc, &unit)?;
     assert!(rt; text.is(EXPECTED));
+    texts_differ();
     Ok(())
 }
