@@ -28,26 +28,40 @@ fn access(alloc: Global, array: u32, modulus: u32) -> Result<Access, Fail> {
     Ok(Access { array, subs })
 }
 
-fn leaf(alloc: Global) -> Result<Code, Fail> {
-    let mut origin = List::new(alloc);
-    origin.push(form(alloc, [1, 0].as_slice(), 0)?)?;
-    origin.push(form(alloc, [-1, 2].as_slice(), 0)?)?;
+fn right(alloc: Global) -> Result<Expr, Fail> {
     let ten = Boxed::new(alloc, Expr::Number(-10))?;
     let iterator = Boxed::new(alloc, Expr::Iter(0))?;
     let product = Boxed::new(alloc, Expr::Mul(ten, iterator))?;
     let read = Boxed::new(alloc, Expr::Read(access(alloc, 1, 4)?))?;
+    Ok(Expr::Add(product, read))
+}
+
+fn body(alloc: Global) -> Result<Body, Fail> {
+    let write = access(alloc, 0, 0)?;
+    let right = right(alloc)?;
+    Ok(Body { write, right })
+}
+
+fn origin(alloc: Global) -> Result<List<Aff>, Fail> {
+    let mut origin = List::new(alloc);
+    origin.push(form(alloc, [1, 0].as_slice(), 0)?)?;
+    origin.push(form(alloc, [-1, 2].as_slice(), 0)?)?;
+    Ok(origin)
+}
+
+fn leaf(alloc: Global) -> Result<Code, Fail> {
+    let places = List::from_slice(alloc, [0, 2].as_slice())?;
+    let origin = origin(alloc)?;
+    let body = body(alloc)?;
     Ok(Code::Leaf {
         label: Label::Stmt(3),
-        body: Body {
-            write: access(alloc, 0, 0)?,
-            right: Expr::Add(product, read),
-        },
+        body,
         origin,
-        places: List::from_slice(alloc, [0, 2].as_slice())?,
+        places,
     })
 }
 
-fn guarded(alloc: Global) -> Result<Code, Fail> {
+fn system(alloc: Global) -> Result<System, Fail> {
     let mut rows = List::new(alloc);
     rows.push(form(alloc, [1, 0, -3].as_slice(), 0)?)?;
     let ranges = [
@@ -56,29 +70,70 @@ fn guarded(alloc: Global) -> Result<Code, Fail> {
         Range { low: 0, high: 1 },
     ];
     let boxes = List::from_slice(alloc, ranges.as_slice())?;
-    Ok(Code::Guard {
-        system: System::new(3, rows, boxes).ok_or("system")?,
-        inner: Boxed::new(alloc, leaf(alloc)?)?,
+    Ok(System::new(3, rows, boxes).ok_or("system")?)
+}
+
+fn guarded(alloc: Global) -> Result<Code, Fail> {
+    let system = system(alloc)?;
+    let inner = Boxed::new(alloc, leaf(alloc)?)?;
+    Ok(Code::Guard { system, inner })
+}
+
+fn sequence(alloc: Global) -> Result<Code, Fail> {
+    let mut parts = List::new(alloc);
+    parts.push(guarded(alloc)?)?;
+    parts.push(leaf(alloc)?)?;
+    Ok(Code::Seq(parts))
+}
+
+fn inner_loop(alloc: Global) -> Result<Code, Fail> {
+    let lows = bounds(alloc, [1].as_slice(), 1, 2)?;
+    let highs = bounds(alloc, [-1].as_slice(), 9, 1)?;
+    let inner = Boxed::new(alloc, sequence(alloc)?)?;
+    Ok(Code::Loop {
+        level: 2,
+        lows,
+        highs,
+        inner,
     })
 }
 
-fn around(alloc: Global, inner: Code) -> Result<Code, Fail> {
-    let inner = Code::Loop {
-        level: 2,
-        lows: bounds(alloc, [1].as_slice(), 1, 2)?,
-        highs: bounds(alloc, [-1].as_slice(), 9, 1)?,
-        inner: Boxed::new(alloc, inner)?,
-    };
+fn outer_lows(alloc: Global) -> Result<List<Bound>, Fail> {
     let mut lows = bounds(alloc, [].as_slice(), 0, 1)?;
-    lows.push(Bound {
-        form: form(alloc, [].as_slice(), -5)?,
-        divisor: 3,
-    })?;
+    let form = form(alloc, [].as_slice(), -5)?;
+    lows.push(Bound { form, divisor: 3 })?;
+    Ok(lows)
+}
+
+fn outer_loop(alloc: Global) -> Result<Code, Fail> {
+    let lows = outer_lows(alloc)?;
+    let highs = bounds(alloc, [].as_slice(), 3, 1)?;
+    let inner = Boxed::new(alloc, inner_loop(alloc)?)?;
     Ok(Code::Loop {
         level: 1,
         lows,
-        highs: bounds(alloc, [].as_slice(), 3, 1)?,
-        inner: Boxed::new(alloc, inner)?,
+        highs,
+        inner,
+    })
+}
+
+fn arrays(alloc: Global) -> Result<List<ArrayDecl>, Fail> {
+    let name = Text::of(alloc, b"A")?;
+    let extents = List::from_slice(alloc, [2, 8].as_slice())?;
+    let mut arrays = List::new(alloc);
+    arrays.push(ArrayDecl { name, extents })?;
+    Ok(arrays)
+}
+
+fn unit(alloc: Global) -> Result<Unit, Fail> {
+    let mut temps = List::new(alloc);
+    temps.push(List::from_slice(alloc, [4].as_slice())?)?;
+    let arrays = arrays(alloc)?;
+    let root = outer_loop(alloc)?;
+    Ok(Unit {
+        root,
+        arrays,
+        temps,
     })
 }
 
@@ -93,23 +148,8 @@ for x1 = max(0, ceil((-5) / 3)) to 3\n\
 
 #[test]
 fn prints_a_unit(rt: HostRuntime) -> Result<(), Fail> {
-    let alloc = rt.alloc();
-    let mut parts = List::new(alloc);
-    parts.push(guarded(alloc)?)?;
-    parts.push(leaf(alloc)?)?;
-    let mut arrays = List::new(alloc);
-    arrays.push(ArrayDecl {
-        name: Text::of(alloc, b"A")?,
-        extents: List::from_slice(alloc, [2, 8].as_slice())?,
-    })?;
-    let mut temps = List::new(alloc);
-    temps.push(List::from_slice(alloc, [4].as_slice())?)?;
-    let unit = Unit {
-        root: around(alloc, Code::Seq(parts))?,
-        arrays,
-        temps,
-    };
-    let text = code_text(alloc, &unit)?;
+    let unit = unit(rt.alloc())?;
+    let text = code_text(rt.alloc(), &unit)?;
     assert!(rt; text.is(EXPECTED));
     texts_differ();
     Ok(())
