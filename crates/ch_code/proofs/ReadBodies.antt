@@ -1,21 +1,21 @@
 -- The texts of names, accesses and right sides tell them.
-use Rattle.std.proofs.Common.{◌≡◌, refl, sym, ap, ◌∙◌, subst, ℕ, zero, suc, ◌+◌, ◌-◌, ◌<◌, ◌≤◌, Bool, true, false, not, ◌&&◌, ◌||◌, cond, nat_eq, nat_lt, nat_le, ℤ, pos, negsuc, List, [], ◌∷◌, ◌++◌, length, take, ◌⊎◌, inl, inr, arith, append_assoc}
+use Rattle.std.proofs.Common.{◌≡◌, refl, sym, ap, ◌∙◌, ℕ, zero, suc, ◌-◌, ◌<◌, ◌≤◌, true, false, not, ◌||◌, nat_eq, nat_lt, List, [], ◌∷◌, ◌++◌, length, take, ◌⊎◌, inl, inr, arith, append_assoc}
 use Rattle.std.specs.Prelude.{codes}
 use Rattle.std.specs.List.{flat_map, list_all}
 use Rattle.std.specs.Str.{bytes_eq}
-use Rattle.std.proofs.lemmas.Bool.{and_from, and_parts, both_ways, cases_Bool, cases_lt, cases_order, cond-true, cond-false, eq-eqb, eqb-true, ltb-false, ltb-true, not-true, not-false, not_from_false, not_from_true, or_left, or_parts}
+use Rattle.std.proofs.lemmas.Bool.{and_from, and_parts, both_ways, cases_Bool, cases_order, cond-true, cond-false, eq-eqb, ltb-false, ltb-true, not-true, or_parts}
 use Rattle.std.proofs.lemmas.Bool.Decides.{nat_tests}
 use Rattle.std.proofs.lemmas.List.{append_cancel_left}
 use Rattle.ch_affine.specs.Form.{Form}
 use Rattle.ch_nest.specs.declared.nest.Access.{Access}
 use Rattle.ch_nest.specs.declared.nest.ArrayDecl.{ArrayDecl}
 use Rattle.ch_nest.specs.declared.nest.Sub as sub
-use Rattle.ch_print.specs.Numbers.{integer_text, number_text}
-use Rattle.ch_print.proofs.Readback.{is_digit, not_number, read_integer, read_number, same_run, stops}
-use Rattle.ch_code.specs.FormText.{form_text, original, variable_text}
+use Rattle.ch_print.specs.Numbers.{number_text}
+use Rattle.ch_print.proofs.Readback.{is_digit, read_number, same_run, stops}
+use Rattle.ch_code.specs.FormText.{form_text, original}
 use Rattle.ch_code.specs.BodyText.{access_text, array_text, has_other, is_own, is_plain, is_word, modular_text, nth_name, other_text, sub_text, subs_text}
-use Rattle.ch_code.proofs.ReadForms.{behind_one, differ, form_stops, goes_on, number_stops, read_form, starts_apart}
-use Rattle.ch_code.proofs.ReadLists.{apart_by, leads, leads_with, read_all}
+use Rattle.ch_code.proofs.ReadForms.{behind_one, differ, form_stops, goes_on, read_form, starts_apart}
+use Rattle.ch_code.proofs.ReadLists.{leads, read_all}
 use Rattle.ch_code.proofs.Steps.{own_inside}
 
 bracket_digit : (b : ℕ) → is_digit b ≡ true → (nat_eq 40 b || nat_eq 93 b) ≡ false

@@ -1,8 +1,7 @@
 -- The text of code tells it.
-use Rattle.std.proofs.Common.{◌≡◌, refl, sym, ap, ◌∙◌, subst, ℕ, zero, suc, ◌+◌, ◌<◌, Bool, true, false, not, ◌&&◌, cond, nat_eq, ℤ, List, [], ◌∷◌, ◌++◌, length, map, ◌⊎◌, inl, inr, arith, append_assoc}
+use Rattle.std.proofs.Common.{◌≡◌, refl, sym, ap, ◌∙◌, subst, ℕ, zero, suc, Bool, true, false, cond, nat_eq, List, [], ◌∷◌, ◌++◌, length, map, inl, inr, arith, append_assoc}
 use Rattle.std.specs.Prelude.{codes}
 use Rattle.std.specs.List.{flat_map}
-use Rattle.std.proofs.lemmas.Bool.{both_ways, eqb-true, eqb-false, eq-eqb}
 use Rattle.std.proofs.lemmas.List.{append_cancel_left}
 use Rattle.ch_affine.specs.Form.{Form}
 use Rattle.ch_affine.specs.Rows.{Rows}
@@ -14,7 +13,7 @@ use Rattle.ch_print.proofs.Readback.{is_digit, read_number, stops}
 use Rattle.ch_timed.specs.declared.element.Label.{Label}
 use Rattle.ch_timed.specs.declared.element.Label.TheVariants.{Stmt, Move}
 use Rattle.ch_code.specs.BodyText.{body_text}
-use Rattle.ch_code.specs.FormText.{form_text, looped, original, variable_text}
+use Rattle.ch_code.specs.FormText.{form_text, looped}
 use Rattle.ch_code.specs.LoopText.{for_text, if_text}
 use Rattle.ch_code.specs.CodeText.{Printed, brace_lead, code_layer, code_text, instance_text, lead, leaf_text, level_of, margin, more_origins_text, origin_text, origins_text, parts_text, place_text}
 use Rattle.ch_code.specs.declared.code.Bound.{Bound}
@@ -23,10 +22,10 @@ use Rattle.ch_code.specs.declared.code.Code.TheOpen.{Code-F}
 use Rattle.ch_code.specs.declared.code.Code.TheViews.{out-Code, roll-Code, roll-out-Code}
 use Rattle.ch_code.specs.declared.code.Code.TheFolds.{fold-roll-Code, ind-Code}
 use Rattle.ch_code.proofs.ReadExprs.{read_body}
-use Rattle.ch_code.proofs.ReadForms.{behind_one, differ, goes_on, starts_apart}
+use Rattle.ch_code.proofs.ReadForms.{behind_one, differ, goes_on}
 use Rattle.ch_code.proofs.ReadGuards.{Behind, behind_test, read_if}
 use Rattle.ch_code.proofs.ReadHeads.{read_for, read_loop_form}
-use Rattle.ch_code.proofs.ReadLists.{apart_by, leads, leads_with, read_all}
+use Rattle.ch_code.proofs.ReadLists.{leads, read_all}
 
 -- statements
 

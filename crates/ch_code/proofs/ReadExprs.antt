@@ -1,5 +1,5 @@
 -- The text of a right side tells it.
-use Rattle.std.proofs.Common.{◌≡◌, refl, sym, ap, ◌∙◌, subst, ℕ, zero, suc, ◌+◌, ◌<◌, ◌≤◌, Bool, true, false, not, ◌&&◌, ◌||◌, cond, nat_eq, nat_lt, nat_le, ℤ, pos, negsuc, List, [], ◌∷◌, ◌++◌, length, ◌⊎◌, inl, inr, arith, append_assoc}
+use Rattle.std.proofs.Common.{◌≡◌, refl, sym, ap, ◌∙◌, ℕ, suc, Bool, true, false, ◌||◌, cond, nat_eq, ℤ, pos, negsuc, List, [], ◌∷◌, ◌++◌, length, inl, inr, arith, append_assoc}
 use Rattle.std.specs.Prelude.{codes}
 use Rattle.std.specs.List.{list_all}
 use Rattle.std.proofs.lemmas.Bool.{and_from, and_parts, both_ways, or_left, or_parts, not-true, not-false, not_from_false}
@@ -15,10 +15,10 @@ use Rattle.ch_nest.specs.declared.nest.Expr.TheFolds.{fold-roll-Expr, ind-Expr}
 use Rattle.ch_print.specs.Numbers.{integer_text, number_text}
 use Rattle.ch_print.proofs.Readback.{all_digits, digit_first, is_digit, read_integer, read_number, same_run, stops}
 use Rattle.ch_code.specs.FormText.{original, variable_text}
-use Rattle.ch_code.specs.BodyText.{access_text, array_text, body_text, expr_layer, expr_text, infix_text, is_own, is_plain, is_word, nth_name, other_text}
+use Rattle.ch_code.specs.BodyText.{access_text, array_text, body_text, expr_layer, expr_text, infix_text, is_plain, is_word, nth_name}
 use Rattle.ch_code.proofs.ReadBodies.{access_is, named, other_cases, own_cases, own_plain, plain_first, plain_words, read_access}
 use Rattle.ch_code.proofs.ReadForms.{behind_one, differ, starts_apart}
-use Rattle.ch_code.proofs.ReadLists.{apart_by, leads, leads_with}
+use Rattle.ch_code.proofs.ReadLists.{leads, leads_with}
 
 -- what goes on with a right side: a byte of a word, or a subscript
 abbrev pub is_text : ℕ → Bool

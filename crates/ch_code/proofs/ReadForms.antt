@@ -1,14 +1,14 @@
 -- The text of a form tells the form: a text that begins with it, and doesn't go on as a form, begins with no other form's text.
-use Rattle.std.proofs.Common.{◌≡◌, refl, sym, ap, ◌∙◌, ℕ, zero, suc, ◌+◌, ◌<◌, ◌≤◌, Bool, true, false, not, ◌&&◌, ◌||◌, nat_eq, nat_lt, nat_le, ℤ, pos, negsuc, List, [], ◌∷◌, ◌++◌, get_or, length, ◌⊎◌, inl, inr, arith, append_assoc}
+use Rattle.std.proofs.Common.{◌≡◌, refl, sym, ap, ◌∙◌, ℕ, zero, suc, ◌<◌, Bool, true, false, ◌&&◌, ◌||◌, nat_eq, ℤ, pos, negsuc, List, [], ◌∷◌, ◌++◌, get_or, length, ◌⊎◌, inl, inr, arith, append_assoc}
 use Rattle.std.specs.Prelude.{codes, unsigned_abs}
-use Rattle.std.proofs.lemmas.Bool.{both_ways, cases_Bool, cases_eq, cond-true, cond-false, eqb-true, eqb-false, not_from_false, not-false, or_parts}
+use Rattle.std.proofs.lemmas.Bool.{both_ways, cases_Bool, cond-true, cond-false, eqb-true, eqb-false, not_from_false, not-false, or_parts}
 use Rattle.std.proofs.lemmas.Bool.Decides.{nat_tests}
 use Rattle.std.proofs.lemmas.List.{append_cancel_left}
 use Rattle.ch_affine.specs.Affine.{form}
 use Rattle.ch_affine.specs.Form.{Form}
 use Rattle.ch_print.specs.Numbers.{integer_text, number_text}
 use Rattle.ch_print.proofs.Readback.{digit_first, is_digit, not_number, read_integer, read_number, stops}
-use Rattle.ch_code.specs.FormText.{constant_text, count_text, form_text, is_zero, sign_text, sum_text, term_text, times_text, variable_text}
+use Rattle.ch_code.specs.FormText.{constant_text, count_text, form_text, sign_text, sum_text, times_text, variable_text}
 
 -- texts that differ in a byte
 pub differ : (n : ℕ) (xs ys : List ℕ) → nat_eq (get_or xs n 0) (get_or ys n 0) ≡ false → xs ≡ ys → ⊥

@@ -1,5 +1,5 @@
 -- The head of a guard tells its system.
-use Rattle.std.proofs.Common.{◌≡◌, refl, sym, ap, ◌∙◌, subst, ℕ, zero, suc, Bool, true, false, not, ◌&&◌, nat_eq, nat_lt, ℤ, pos, negsuc, List, [], ◌∷◌, ◌++◌, length, ◌⊎◌, inl, inr, arith, append_assoc}
+use Rattle.std.proofs.Common.{◌≡◌, refl, sym, ap, ◌∙◌, ℕ, Bool, true, false, nat_eq, nat_lt, ℤ, pos, negsuc, List, [], ◌∷◌, ◌++◌, length, ◌⊎◌, inl, inr, arith, append_assoc}
 use Rattle.std.specs.Prelude.{codes}
 use Rattle.std.specs.List.{flat_map}
 use Rattle.std.proofs.lemmas.Bool.{cases_Bool, cond-true, cond-false, eqb-true, not_from_false}
@@ -12,7 +12,7 @@ use Rattle.ch_print.specs.Numbers.{integer_text, number_text}
 use Rattle.ch_print.proofs.Readback.{is_digit, read_integer, read_number, stops}
 use Rattle.ch_code.specs.FormText.{form_text, looped, variable_text}
 use Rattle.ch_code.specs.LoopText.{if_text, more_ranges_text, range_text, ranges_text, row_text, some_text, variables_text}
-use Rattle.ch_code.proofs.ReadForms.{behind_one, goes_on, number_stops, starts_apart}
+use Rattle.ch_code.proofs.ReadForms.{number_stops, starts_apart}
 use Rattle.ch_code.proofs.ReadHeads.{read_loop_form}
 use Rattle.ch_code.proofs.ReadLists.{apart_by, leads, leads_with, read_all}
 

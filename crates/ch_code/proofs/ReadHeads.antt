@@ -1,21 +1,18 @@
 -- The heads of loops and guards tell their parts.
-use Rattle.std.proofs.Common.{◌≡◌, refl, sym, ap, ◌∙◌, subst, ℕ, zero, suc, ◌+◌, ◌<◌, ◌≤◌, Bool, true, false, not, ◌&&◌, ◌||◌, nat_eq, nat_lt, nat_le, ℤ, pos, negsuc, List, [], ◌∷◌, ◌++◌, length, ◌⊎◌, inl, inr, arith, append_assoc}
+use Rattle.std.proofs.Common.{◌≡◌, refl, sym, ap, ◌∙◌, ℕ, zero, suc, Bool, true, false, ◌||◌, nat_eq, List, [], ◌∷◌, ◌++◌, arith, append_assoc}
 use Rattle.std.specs.Prelude.{codes}
 use Rattle.std.specs.List.{flat_map}
-use Rattle.std.proofs.lemmas.Bool.{both_ways, cases_Bool, cond-true, cond-false, eqb-true, not_from_false}
 use Rattle.std.proofs.lemmas.Bool.Decides.{nat_tests}
 use Rattle.std.proofs.lemmas.List.{append_cancel_left}
 use Rattle.ch_affine.specs.Form.{Form}
-use Rattle.ch_affine.specs.Rows.{Rows, system}
-use Rattle.ch_affine.specs.declared.system.Range.{Range}
 use Rattle.ch_print.specs.Lists.{behind, separated}
-use Rattle.ch_print.specs.Numbers.{integer_text, number_text}
-use Rattle.ch_print.proofs.Readback.{is_digit, not_number, read_integer, read_number, stops}
-use Rattle.ch_code.specs.FormText.{form_text, looped, variable_text}
-use Rattle.ch_code.specs.LoopText.{bound_text, divided_text, end_text, for_text, high_text, if_text, low_text, many_text, more_ranges_text, range_text, ranges_text, row_text, some_text, variables_text}
+use Rattle.ch_print.specs.Numbers.{number_text}
+use Rattle.ch_print.proofs.Readback.{is_digit, read_number, stops}
+use Rattle.ch_code.specs.FormText.{form_text, looped}
+use Rattle.ch_code.specs.LoopText.{bound_text, divided_text, end_text, for_text, high_text, low_text, many_text}
 use Rattle.ch_code.specs.declared.code.Bound.{Bound}
-use Rattle.ch_code.proofs.ReadForms.{behind_one, differ, form_stops, goes_on, number_stops, read_form, starts_apart}
-use Rattle.ch_code.proofs.ReadLists.{apart_by, leads, leads_with, read_all}
+use Rattle.ch_code.proofs.ReadForms.{behind_one, form_stops, goes_on, read_form, starts_apart}
+use Rattle.ch_code.proofs.ReadLists.{leads, read_all}
 
 -- a round bracket, or the first letter of a function
 abbrev pub is_other : ℕ → Bool

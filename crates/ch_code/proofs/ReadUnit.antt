@@ -1,5 +1,5 @@
 -- Units of one text are one.
-use Rattle.std.proofs.Common.{◌≡◌, refl, sym, ap, ◌∙◌, subst, ℕ, zero, suc, Bool, true, false, not, ◌||◌, cond, nat_eq, List, [], ◌∷◌, ◌++◌, length, ◌⊎◌, inl, inr, arith, append_assoc}
+use Rattle.std.proofs.Common.{◌≡◌, refl, sym, ap, ◌∙◌, ℕ, suc, Bool, true, false, not, ◌||◌, nat_eq, List, [], ◌∷◌, ◌++◌, ◌⊎◌, inl, inr, append_assoc}
 use Rattle.std.specs.Prelude.{codes}
 use Rattle.std.specs.List.{flat_map}
 use Rattle.std.proofs.lemmas.Bool.{both_ways, cases_Bool, cond-true, cond-false, eqb-false, ne_eqb, not_from_false, or_parts}
@@ -18,7 +18,7 @@ use Rattle.ch_code.specs.declared.code.Code.TheViews.{out-Code}
 use Rattle.ch_code.specs.declared.code.Unit as unit
 use Rattle.ch_code.proofs.ReadBodies.{named, plain_first, plain_words}
 use Rattle.ch_code.proofs.ReadCode.{layer, opened, read_code}
-use Rattle.ch_code.proofs.ReadForms.{behind_one, differ, starts_apart}
+use Rattle.ch_code.proofs.ReadForms.{behind_one, starts_apart}
 use Rattle.ch_code.proofs.ReadLists.{leads, read_all}
 
 abbrev special : ℕ → Bool

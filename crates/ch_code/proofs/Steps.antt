@@ -1,5 +1,5 @@
 -- Texts of lists, one element further.
-use Rattle.std.proofs.Common.{◌≡◌, refl, sym, ap, ◌∙◌, ℕ, zero, suc, ◌+◌, ◌<◌, ◌≤◌, ℤ, Bool, true, false, not, ◌&&◌, List, [], ◌∷◌, ◌++◌, get_or, take, drop, length, map, inl, inr, arith, append_assoc}
+use Rattle.std.proofs.Common.{◌≡◌, refl, ap, ◌∙◌, ℕ, zero, suc, ◌+◌, ◌<◌, ◌≤◌, ℤ, Bool, true, false, not, ◌&&◌, List, [], ◌∷◌, ◌++◌, get_or, take, drop, length, map, inl, inr, arith, append_assoc}
 use Rattle.std.specs.Prelude.{codes}
 use Rattle.std.specs.List.{list_all}
 use Rattle.std.proofs.lemmas.Bool.{both_ways, cases_lt}
@@ -8,7 +8,7 @@ use Rattle.ch_nest.specs.declared.nest.ArrayDecl.{ArrayDecl}
 use Rattle.ch_affine.specs.Form.{Form}
 use Rattle.ch_affine.specs.declared.system.Range.{Range}
 use Rattle.ch_print.specs.Numbers.{number_text}
-use Rattle.ch_code.specs.FormText.{constant_text, is_zero, sum_text, term_text, times_text}
+use Rattle.ch_code.specs.FormText.{is_zero, sum_text, term_text, times_text}
 use Rattle.ch_code.specs.LoopText.{divided_text, more_ranges_text, range_text}
 use Rattle.ch_code.specs.BodyText.{has_other, is_digit, is_own, is_plain, is_word, nth_name}
 use Rattle.ch_code.specs.CodeText.{buffer_line, buffer_lines, code_text, margin, more_origins_text, origin_text, parts_text}

@@ -1,5 +1,5 @@
 -- Assignments for people: `A[i1][i2 - 1] = ((10 * i1) + B[(i2 + 1) mod 4])`. Operations stand in parentheses.
-use Rattle.std.specs.Prelude.{ℕ, zero, suc, ◌-◌, ℤ, Bool, true, false, cond, not, ◌&&◌, ◌||◌, nat_eq, nat_lt, nat_le, List, [], ◌∷◌, ◌++◌, length, map, take, slice_index_or, codes}
+use Rattle.std.specs.Prelude.{ℕ, zero, suc, ◌-◌, Bool, false, cond, not, ◌&&◌, ◌||◌, nat_eq, nat_lt, nat_le, List, [], ◌∷◌, ◌++◌, length, map, take, slice_index_or, codes}
 use Rattle.std.specs.List.{flat_map, list_all}
 use Rattle.std.specs.Str.{bytes_eq}
 use Rattle.ch_nest.specs.declared.nest.Access.{Access}

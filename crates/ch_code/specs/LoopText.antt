@@ -1,6 +1,6 @@
 -- The heads of loops and guards for people: `for x2 = max(0, ceil((x1 - 1) / 2)) to 3` and
 -- `if 0 <= x1 <= 3, some x2: 0 <= x2 <= 4 and x1 - 2*x2 >= 0`.
-use Rattle.std.specs.Prelude.{ℕ, zero, suc, Bool, true, false, cond, nat_eq, nat_lt, List, [], ◌∷◌, ◌++◌, length, codes}
+use Rattle.std.specs.Prelude.{ℕ, zero, suc, cond, nat_eq, nat_lt, List, [], ◌∷◌, ◌++◌, length, codes}
 use Rattle.std.specs.List.{flat_map}
 use Rattle.ch_affine.specs.Form.{Form}
 use Rattle.ch_affine.specs.Rows.{Rows}
