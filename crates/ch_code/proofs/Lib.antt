@@ -1,2 +1,10 @@
+pub mod ReadBodies
+pub mod ReadCode
+pub mod ReadExprs
+pub mod ReadForms
+pub mod ReadGuards
+pub mod ReadHeads
+pub mod ReadLists
+pub mod ReadUnit
 pub mod Rolls
 pub mod Steps

@@ -1,5 +1,5 @@
 -- One layer of the texts of right sides and of code, at each form of them.
-use Rattle.std.proofs.Common.{◌≡◌, sym, ap, ◌∙◌, ℕ, suc, ℤ, Bool, true, List, [], ◌∷◌, ◌++◌, map}
+use Rattle.std.proofs.Common.{◌≡◌, sym, ap, ◌∙◌, ℕ, suc, ℤ, Bool, true, List, ◌++◌, map}
 use Rattle.std.specs.Prelude.{codes}
 use Rattle.ch_affine.specs.Form.{Form}
 use Rattle.ch_affine.specs.Rows.{Rows}
@@ -17,7 +17,6 @@ use Rattle.ch_code.specs.LoopText.{for_text, if_text}
 use Rattle.ch_code.specs.CodeText.{Printed, brace_lead, code_layer, code_text, lead, leaf_text, level_of, margin, parts_text}
 use Rattle.ch_code.specs.declared.code.Bound.{Bound}
 use Rattle.ch_code.specs.declared.code.Code.{Code}
-use Rattle.ch_code.specs.declared.code.Code.TheOpen.{Code-F}
 use Rattle.ch_code.specs.declared.code.Code.TheVariants.{Seq, Loop, Guard, Leaf, rolls-Seq, rolls-Loop, rolls-Guard, rolls-Leaf}
 use Rattle.ch_code.specs.declared.code.Code.TheFolds.{fold-roll-Code}
 

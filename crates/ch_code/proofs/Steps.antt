@@ -1,5 +1,5 @@
 -- Texts of lists, one element further.
-use Rattle.std.proofs.Common.{◌≡◌, refl, sym, ap, ◌∙◌, ℕ, zero, suc, ◌+◌, ◌<◌, ◌≤◌, ℤ, Bool, true, false, not, ◌&&◌, List, [], ◌∷◌, ◌++◌, get_or, take, drop, length, map, inl, inr, arith, append_assoc}
+use Rattle.std.proofs.Common.{◌≡◌, refl, ap, ◌∙◌, ℕ, zero, suc, ◌+◌, ◌<◌, ◌≤◌, ℤ, Bool, true, false, not, ◌&&◌, List, [], ◌∷◌, ◌++◌, get_or, take, drop, length, map, inl, inr, arith, append_assoc}
 use Rattle.std.specs.Prelude.{codes}
 use Rattle.std.specs.List.{list_all}
 use Rattle.std.proofs.lemmas.Bool.{both_ways, cases_lt}
@@ -8,7 +8,7 @@ use Rattle.ch_nest.specs.declared.nest.ArrayDecl.{ArrayDecl}
 use Rattle.ch_affine.specs.Form.{Form}
 use Rattle.ch_affine.specs.declared.system.Range.{Range}
 use Rattle.ch_print.specs.Numbers.{number_text}
-use Rattle.ch_code.specs.FormText.{constant_text, is_zero, sum_text, term_text, times_text}
+use Rattle.ch_code.specs.FormText.{is_zero, sum_text, term_text, times_text}
 use Rattle.ch_code.specs.LoopText.{divided_text, more_ranges_text, range_text}
 use Rattle.ch_code.specs.BodyText.{has_other, is_digit, is_own, is_plain, is_word, nth_name}
 use Rattle.ch_code.specs.CodeText.{buffer_line, buffer_lines, code_text, margin, more_origins_text, origin_text, parts_text}
@@ -22,7 +22,7 @@ times_other (suc (suc n)) h = refl
 pub sum_more : (letter : ℕ) (first : Bool) (coefs : List ℤ) (constant d : ℤ) (k : ℕ) (out next whole : List ℕ) → k < length coefs
     → next ≡ out ++ term_text letter first (k + 1) (get_or coefs k d)
     → out ++ sum_text letter first (k + 1) (drop k coefs) constant ≡ whole
-    → next ++ sum_text letter (first && is_zero (get_or coefs k d)) (k + 1 + 1) (drop (k + 1) coefs) constant ≡ whole
+    → next ++ sum_text letter (is_zero (get_or coefs k d) && first) (k + 1 + 1) (drop (k + 1) coefs) constant ≡ whole
 sum_more letter first coefs constant d k out next whole l e h =
     let s : k + 1 + 1 ≡ suc (k + 1) = omega arith in
     let a = rw (drop_more coefs k d l) at h in
@@ -93,7 +93,7 @@ own_inside arrays n h = elim (cases_lt n (length arrays)) as (λ _. n < length a
   | inr past ↦ absurd (both_ways _ (own_past arrays n past) h)
 ]
 
-pub divided_other : (rounding : List ℕ) (n : ℕ) (form : List ℕ) → (n ≡ 1 → ⊥) → divided_text rounding n form ≡ rounding ++ codes "(" ++ form ++ codes " / " ++ number_text n ++ codes ")"
+pub divided_other : (rounding : List ℕ) (n : ℕ) (form : List ℕ) → (n ≡ 1 → ⊥) → divided_text rounding n form ≡ rounding ++ codes "((" ++ form ++ codes ") / " ++ number_text n ++ codes ")"
 divided_other rounding zero form h = refl
 divided_other rounding (suc zero) form h = absurd (h refl)
 divided_other rounding (suc (suc n)) form h = refl

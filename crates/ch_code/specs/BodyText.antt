@@ -1,5 +1,5 @@
--- Assignments for people: `A[i1][i2 - 1] = ((10 * i1) + B[i2 mod 4])`. Operations stand in parentheses.
-use Rattle.std.specs.Prelude.{ℕ, zero, suc, ◌-◌, ℤ, Bool, true, false, cond, not, ◌&&◌, ◌||◌, nat_eq, nat_lt, nat_le, List, [], ◌∷◌, ◌++◌, length, map, take, slice_index_or, codes}
+-- Assignments for people: `A[i1][i2 - 1] = ((10 * i1) + B[(i2 + 1) mod 4])`. Operations stand in parentheses.
+use Rattle.std.specs.Prelude.{ℕ, zero, suc, ◌-◌, Bool, false, cond, not, ◌&&◌, ◌||◌, nat_eq, nat_lt, nat_le, List, [], ◌∷◌, ◌++◌, length, map, take, slice_index_or, codes}
 use Rattle.std.specs.List.{flat_map, list_all}
 use Rattle.std.specs.Str.{bytes_eq}
 use Rattle.ch_nest.specs.declared.nest.Access.{Access}
@@ -45,13 +45,13 @@ other_text count n = cond (nat_lt n count) (codes "#" ++ number_text n) (buffer_
 unfoldable pub array_text : List ArrayDecl → ℕ → List ℕ
 array_text arrays n = cond (is_own arrays n) (nth_name arrays n) (other_text (length arrays) n)
 
-abbrev pub modulus_text : ℕ → List ℕ
-modulus_text zero = []
-modulus_text (suc n) = codes " mod " ++ number_text (suc n)
+abbrev pub modular_text : List ℕ → ℕ → List ℕ
+modular_text form zero = form
+modular_text form (suc n) = codes "(" ++ form ++ codes ") mod " ++ number_text (suc n)
 
 -- a subscript over this many original iterators
 unfoldable pub sub_text : ℕ → sub.Sub → List ℕ
-sub_text iterators s = codes "[" ++ form_text original iterators s.form ++ modulus_text s.modulus ++ codes "]"
+sub_text iterators s = codes "[" ++ modular_text (form_text original iterators s.form) s.modulus ++ codes "]"
 
 abbrev pub subs_text : ℕ → List sub.Sub → List ℕ
 subs_text iterators [] = codes "[]"

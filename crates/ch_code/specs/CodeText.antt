@@ -31,11 +31,14 @@ origins_text around (f ∷ fs) = origin_text around 1 f ++ more_origins_text aro
 abbrev pub place_text : ℕ → List ℕ
 place_text p = codes " " ++ number_text p
 
--- a statement: its label, where its original iterators come from, its static places, and its assignment
+-- a statement's label, and where its original iterators come from
+unfoldable pub instance_text : ℕ → Label → List Form → List ℕ
+instance_text around label origin = label_text label ++ codes "(" ++ origins_text around origin ++ codes ")"
+
+-- a statement with its static places and its assignment
 unfoldable pub leaf_text : List ArrayDecl → ℕ → Label → Body → List Form → List ℕ → List ℕ
 leaf_text arrays around label body origin places =
-    label_text label ++ codes "(" ++ origins_text around origin ++ codes ") at" ++ flat_map place_text places ++ codes ": "
-    ++ body_text arrays (length origin) body ++ codes "\n"
+    instance_text around label origin ++ codes " at" ++ flat_map place_text places ++ codes ": " ++ body_text arrays (length origin) body ++ codes "\n"
 
 -- two spaces for each level
 abbrev pub margin : ℕ → List ℕ

@@ -44,11 +44,11 @@ constant_text false z = cond (is_zero z) [] (sign_text false z ++ number_text (u
 -- The coefficients of the variables from the k-th on, and the constant. Nothing is written before the first one that isn't 0.
 abbrev pub sum_text : ℕ → Bool → ℕ → List ℤ → ℤ → List ℕ
 sum_text letter first k [] constant = constant_text first constant
-sum_text letter first k (c ∷ cs) constant = term_text letter first k c ++ sum_text letter (first && is_zero c) (suc k) cs constant
+sum_text letter first k (c ∷ cs) constant = term_text letter first k c ++ sum_text letter (is_zero c && first) (suc k) cs constant
 
 -- how many coefficients there are, where it isn't one for each variable
 abbrev pub count_text : ℕ → ℕ → List ℕ
-count_text variables count = cond (nat_eq count variables) [] (codes "(of " ++ number_text count ++ codes ") ")
+count_text variables count = cond (nat_eq count variables) [] (codes "of " ++ number_text count ++ codes ": ")
 
 -- a form of this many variables
 unfoldable pub form_text : ℕ → ℕ → Form → List ℕ

@@ -1,6 +1,6 @@
--- The heads of loops and guards for people: `for x1 = max(0, ceil(x2 / 2)) to 3` and
+-- The heads of loops and guards for people: `for x2 = max(0, ceil((x1 - 1) / 2)) to 3` and
 -- `if 0 <= x1 <= 3, some x2: 0 <= x2 <= 4 and x1 - 2*x2 >= 0`.
-use Rattle.std.specs.Prelude.{ℕ, zero, suc, Bool, true, false, cond, nat_eq, nat_lt, List, [], ◌∷◌, ◌++◌, length, codes}
+use Rattle.std.specs.Prelude.{ℕ, zero, suc, cond, nat_eq, nat_lt, List, [], ◌∷◌, ◌++◌, length, codes}
 use Rattle.std.specs.List.{flat_map}
 use Rattle.ch_affine.specs.Form.{Form}
 use Rattle.ch_affine.specs.Rows.{Rows}
@@ -12,9 +12,9 @@ use Rattle.ch_code.specs.declared.code.Bound.{Bound}
 
 -- a form divided and rounded by the function of this name; a divisor of 1 isn't written
 abbrev pub divided_text : List ℕ → ℕ → List ℕ → List ℕ
-divided_text rounding zero form = rounding ++ codes "(" ++ form ++ codes " / " ++ number_text zero ++ codes ")"
+divided_text rounding zero form = rounding ++ codes "((" ++ form ++ codes ") / " ++ number_text zero ++ codes ")"
 divided_text rounding (suc zero) form = form
-divided_text rounding (suc (suc n)) form = rounding ++ codes "(" ++ form ++ codes " / " ++ number_text (suc (suc n)) ++ codes ")"
+divided_text rounding (suc (suc n)) form = rounding ++ codes "((" ++ form ++ codes ") / " ++ number_text (suc (suc n)) ++ codes ")"
 
 -- a bound inside this many loops
 unfoldable pub bound_text : List ℕ → ℕ → Bound → List ℕ

@@ -1,6 +1,7 @@
 ghost use Rattle.std.specs.Prelude.{◌≡◌, ◌≤◌, ◌++◌, length, take, OnOk};
 ghost use Rattle.std.specs.List.{flat_map, list_all};
-ghost use Rattle.ch_code.specs.BodyText.{access_text, array_text, body_text, expr_text, has_other, is_own, is_plain, is_word, modulus_text, other_text, sub_text, subs_text};
+ghost use Rattle.ch_code.specs.BodyText.{access_text, array_text, body_text, expr_text, has_other, is_own, is_plain, is_word, modular_text, other_text, sub_text, subs_text};
+ghost use Rattle.ch_code.specs.FormText.{form_text, original};
 
 use crate::forms::{ORIGINAL, put_form, put_variable};
 use ch_affine::Text;
@@ -77,14 +78,16 @@ fn put_array(out: &mut Text, arrays: &[ArrayDecl], number: usize) -> Result<(), 
     put_other(out, arrays.len(), number)
 }
 
-fn put_modulus(out: &mut Text, modulus: u32) -> Result<(), AllocError>
-    ensures { OnOk result (out.new ≡ out.old ++ modulus_text modulus) }
+fn put_modular(out: &mut Text, iterators: usize, sub: &Sub) -> Result<(), AllocError>
+    ensures { OnOk result (out.new ≡ out.old ++ modular_text (form_text original iterators sub.now.form) sub.now.modulus) }
 {
-    if modulus == 0 {
-        return Ok(());
+    if sub.modulus == 0 {
+        return put_form(out, ORIGINAL, iterators, &sub.form);
     }
-    out.append(b" mod ")?;
-    put_number(out, u64::from(modulus))
+    out.append(b"(")?;
+    put_form(out, ORIGINAL, iterators, &sub.form)?;
+    out.append(b") mod ")?;
+    put_number(out, u64::from(sub.modulus))
 }
 
 #[tactic(auto, unfolding(crate::specs::BodyText::sub_text))]
@@ -92,8 +95,7 @@ fn put_sub(out: &mut Text, iterators: usize, sub: &Sub) -> Result<(), AllocError
     ensures { OnOk result (out.new ≡ out.old ++ sub_text iterators sub.now) }
 {
     out.append(b"[")?;
-    put_form(out, ORIGINAL, iterators, &sub.form)?;
-    put_modulus(out, sub.modulus)?;
+    put_modular(out, iterators, sub)?;
     out.append(b"]")
 }
 

@@ -86,7 +86,7 @@ fn put_sum(out: &mut Text, letter: u8, coefs: &[i64], constant: i64) -> Result<(
     let mut first = true;
     for (k, coef) in coefs.iter().enumerate() {
         put_term(out, letter, first, k as u64 + 1, *coef)?;
-        first = first && is_zero(*coef);
+        first = is_zero(*coef) && first;
     }
     put_constant(out, first, constant)
 }
@@ -97,9 +97,9 @@ fn put_count(out: &mut Text, variables: usize, count: usize) -> Result<(), Alloc
     if count == variables {
         return Ok(());
     }
-    out.append(b"(of ")?;
+    out.append(b"of ")?;
     put_number(out, count as u64)?;
-    out.append(b") ")
+    out.append(b": ")
 }
 
 /// Adds a form of this many variables, whose names begin with this letter.

@@ -13,7 +13,12 @@ use std::alloc::AllocError;
 
 /// Adds a bound inside this many loops, rounded by the function of this name.
 #[tactic(auto, unfolding(crate::specs::LoopText::bound_text), using(crate::proofs::Steps::divided_one, crate::proofs::Steps::divided_other))]
-fn put_bound(out: &mut Text, rounding: &[u8], around: usize, bound: &Bound) -> Result<(), AllocError>
+fn put_bound(
+    out: &mut Text,
+    rounding: &[u8],
+    around: usize,
+    bound: &Bound,
+) -> Result<(), AllocError>
     requires { IsTrue (list_all is_ascii rounding.now) }
     ensures { OnOk result (out.new ≡ out.old ++ bound_text rounding.now around bound.now) }
 {
@@ -21,9 +26,9 @@ fn put_bound(out: &mut Text, rounding: &[u8], around: usize, bound: &Bound) -> R
         return put_form(out, LOOPED, around, &bound.form);
     }
     out.append(rounding)?;
-    out.append(b"(")?;
+    out.append(b"((")?;
     put_form(out, LOOPED, around, &bound.form)?;
-    out.append(b" / ")?;
+    out.append(b") / ")?;
     put_number(out, u64::from(bound.divisor))?;
     out.append(b")")
 }

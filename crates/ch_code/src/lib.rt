@@ -10,4 +10,4 @@ mod print;
 mod tests;
 
 pub use code::{Bound, Code, Unit};
-pub use print::code_text;
+pub use print::{code_text, texts_differ};

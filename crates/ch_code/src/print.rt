@@ -1,6 +1,6 @@
 ghost use Rattle.std.specs.Prelude.{◌≡◌, ◌<◌, ◌++◌, suc, false, length, map, OnOk, IfOk, IsTrue};
 ghost use Rattle.std.specs.List.{flat_map};
-ghost use Rattle.ch_code.specs.CodeText.{array_line, brace_lead, buffer_line, buffer_lines, code_text, escaped, extent_text, lead, leaf_text, level_of, margin, more_origins_text, name_text, origin_text, origins_text, parts_text, place_text, quoted, unit_text};
+ghost use Rattle.ch_code.specs.CodeText.{array_line, brace_lead, buffer_line, buffer_lines, code_text, escaped, extent_text, instance_text, lead, leaf_text, level_of, margin, more_origins_text, name_text, origin_text, origins_text, parts_text, place_text, quoted, unit_text};
 ghost use Rattle.ch_code.specs.declared.code.Unit as unit;
 
 use crate::bodies::{is_plain, put_body};
@@ -47,6 +47,21 @@ fn put_places(out: &mut Text, places: &[u32]) -> Result<(), AllocError>
     Ok(())
 }
 
+#[tactic(auto, unfolding(crate::specs::CodeText::instance_text))]
+fn put_instance(
+    out: &mut Text,
+    around: usize,
+    label: Label,
+    origin: &[Aff],
+) -> Result<(), AllocError>
+    ensures { OnOk result (out.new ≡ out.old ++ instance_text around label origin.now) }
+{
+    put_label(out, label)?;
+    out.append(b"(")?;
+    put_origins(out, around, origin)?;
+    out.append(b")")
+}
+
 /// Adds a statement inside this many loops.
 #[tactic(auto, unfolding(crate::specs::CodeText::leaf_text))]
 fn put_leaf(
@@ -60,10 +75,8 @@ fn put_leaf(
 ) -> Result<(), AllocError>
     ensures { OnOk result (out.new ≡ out.old ++ leaf_text arrays.now around label body.now origin.now places.now) }
 {
-    put_label(out, label)?;
-    out.append(b"(")?;
-    put_origins(out, around, origin)?;
-    out.append(b") at")?;
+    put_instance(out, around, label, origin)?;
+    out.append(b" at")?;
     put_places(out, places)?;
     out.append(b": ")?;
     put_body(out, arrays, origin.len(), body)?;
@@ -133,7 +146,12 @@ fn put_code(
             put_margin(out, level)?;
             out.append(b"}\n")
         }
-        Code::Loop { level: number, lows, highs, inner } => {
+        Code::Loop {
+            level: number,
+            lows,
+            highs,
+            inner,
+        } => {
             let own = put_lead(out, behind, level)?;
             put_for(out, around, *number, lows.as_slice(), highs.as_slice())?;
             let deeper = next(around)?;
@@ -144,9 +162,22 @@ fn put_code(
             put_if(out, around, system)?;
             put_code(out, arrays, inner.get(), true, own, around)
         }
-        Code::Leaf { label, body, origin, places } => {
+        Code::Leaf {
+            label,
+            body,
+            origin,
+            places,
+        } => {
             let _ = put_lead(out, behind, level)?;
-            put_leaf(out, arrays, around, *label, body, origin.as_slice(), places.as_slice())
+            put_leaf(
+                out,
+                arrays,
+                around,
+                *label,
+                body,
+                origin.as_slice(),
+                places.as_slice(),
+            )
         }
     }
 }
@@ -258,3 +289,8 @@ pub fn code_text(alloc: Global, unit: &Unit) -> Result<Text, AllocError>
     put_code(&mut out, unit.arrays.as_slice(), &unit.root, false, 0, 0)?;
     Ok(out)
 }
+
+/// States that units of one text are one, whatever is in them. It does nothing.
+pub fn texts_differ()
+    ensures { (u v : unit.Unit) → unit_text u ≡ unit_text v → u ≡ v }
+{}

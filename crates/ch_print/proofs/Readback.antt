@@ -44,7 +44,8 @@ all_glyphs : (ds : List ℕ) → AllBelowBase 10 ds → list_all is_digit (map d
 all_glyphs [] h = refl
 all_glyphs (d ∷ ds) h = and_from _ _ (glyph d (h.0)) (all_glyphs ds (h.1))
 
-all_digits : (n : ℕ) → list_all is_digit (number_text n) ≡ true
+-- a number's text has only digits
+pub all_digits : (n : ℕ) → list_all is_digit (number_text n) ≡ true
 unfolding number_text
 all_digits zero = refl
 all_digits (suc n) = all_glyphs (digits_of 10 (suc n)) (all_below_base_digits_of 10 (suc n) (omega arith))
