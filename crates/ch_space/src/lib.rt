@@ -5,14 +5,14 @@ mod accesses;
 mod closing;
 pub mod copies;
 mod error;
+mod extremes;
+mod judge;
+#[cfg(test)]
+mod judge_tests;
 mod level;
 mod nest_pieces;
 mod nest_space;
-mod extremes;
-mod judge;
-
 #[cfg(test)]
-mod judge_tests;
 mod nest_space_tests;
 mod piece;
 mod reading;
@@ -26,7 +26,6 @@ pub use error::SpaceError;
 pub use extremes::ends;
 pub use judge::{judged, judgement_is_sound};
 pub use nest_space::{of_nest, sound_space};
-
 pub use piece::Piece;
 pub use reading::{count, group, label, piece_count, pieces, places};
 pub use space::Space;
