@@ -1,0 +1,11 @@
+pub mod Before
+pub mod Commutes
+pub mod FlatCommutes
+pub mod Held
+pub mod Kept
+pub mod Law
+pub mod Least
+pub mod Legal
+pub mod Members
+pub mod Places
+pub mod Steps

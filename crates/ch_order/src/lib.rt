@@ -1,0 +1,7 @@
+//! The order law: two timed lists of the same steps do the same to every store, unless two elements that conflict are
+//! executed the other way round.
+#![tactic(auto)]
+
+mod laws;
+
+pub use laws::{arrays_hold_the_store, legal_does_same, legal_steps_do_same, neighbours_change_places};
