@@ -1,5 +1,6 @@
 pub mod Before
 pub mod Commutes
+pub mod Equality
 pub mod FlatCommutes
 pub mod Held
 pub mod Kept

@@ -2,6 +2,8 @@
 //! executed the other way round.
 #![tactic(auto)]
 
+mod bodies;
 mod laws;
+mod numbers;
 
 pub use laws::{arrays_hold_the_store, legal_does_same, legal_steps_do_same, neighbours_change_places};
