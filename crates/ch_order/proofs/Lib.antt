@@ -1,6 +1,7 @@
 pub mod Before
 pub mod Commutes
 pub mod Equality
+pub mod Euclid
 pub mod FlatCommutes
 pub mod Held
 pub mod Kept
@@ -10,3 +11,4 @@ pub mod Legal
 pub mod Members
 pub mod Places
 pub mod Steps
+pub mod WideSums
