@@ -70,7 +70,7 @@ same_cell_is c d h =
 pub same_cell_self : (c : Cell) → same_cell c c ≡ true
 same_cell_self c = and_from _ _ (eq-eqb c.array c.array refl) (ap is_eq (tied_itself (lists_total int_cmp_total) c.subs))
 
-has_each : (c : Cell) (ds : List Cell) → has_cell c ds ≡ false → Each (λ d. same_cell c d ≡ false) ds
+pub has_each : (c : Cell) (ds : List Cell) → has_cell c ds ≡ false → Each (λ d. same_cell c d ≡ false) ds
 has_each c [] h = tt
 has_each c (d ∷ ds) h = let p = or_parts _ _ h in (p.0, has_each c ds p.1)
 
@@ -78,7 +78,7 @@ has_last : (c d : Cell) (ds : List Cell) → same_cell c d ≡ true → has_cell
 has_last c d [] h = or_left _ _ h
 has_last c d (e ∷ ds) h = or_right _ _ (has_last c d ds h)
 
-writes_last : (c d : Cell) (ds : List Cell) → writes_cell c (ds ++ d ∷ []) ≡ same_cell c d
+pub writes_last : (c d : Cell) (ds : List Cell) → writes_cell c (ds ++ d ∷ []) ≡ same_cell c d
 writes_last c d [] = refl
 writes_last c d (e ∷ []) = refl
 writes_last c d (e ∷ f ∷ ds) = writes_last c d (f ∷ ds)
@@ -95,7 +95,7 @@ clash_none ours theirs (c ∷ cs) h = let p = chosen_none _ c _ h in (p.0, clash
 same_cell_sym : (c d : Cell) → same_cell c d ≡ true → same_cell d c ≡ true
 same_cell_sym c d h = subst (λ e. same_cell e c ≡ true) (same_cell_is c d h) (same_cell_self c)
 
-same_cell_turned : (c d : Cell) → same_cell c d ≡ false → same_cell d c ≡ false
+pub same_cell_turned : (c d : Cell) → same_cell c d ≡ false → same_cell d c ≡ false
 same_cell_turned c d h = false_from_ne_true _ (λ e. both_ways _ h (same_cell_sym d c e))
 
 each_kept : {X : Type 0} (P Q : X → Type 0) (xs : List X) → ((x : X) → P x → Q x) → Each P xs → Each Q xs

@@ -1,9 +1,9 @@
 -- Tests of lists of numbers.
-use Rattle.std.proofs.Common.{◌≡◌, refl, sym, ap, ap₂, ◌∙◌, ℤ, Bool, true, false, ◌&&◌, List, [], ◌∷◌}
-use Rattle.std.specs.Ordering.{int_cmp, int_eq, is_eq, ordering_then}
+use Rattle.std.proofs.Common.{◌≡◌, refl, sym, ap, ap₂, ◌∙◌, ℤ, ◌<ℤ◌, Bool, true, false, ◌&&◌, List, [], ◌∷◌}
+use Rattle.std.specs.Ordering.{int_cmp, int_eq, is_eq, ordering_then, MatchOrdering}
 use Rattle.std.specs.declared.cmp.Ordering.{Ordering}
 use Rattle.std.specs.declared.cmp.Ordering.TheVariants.{Less, Equal, Greater}
-use Rattle.std.specs.Cmp.{tied_itself, int_cmp_total}
+use Rattle.std.specs.Cmp.{tied_itself, int_cmp_total, int_ranked}
 use Rattle.std.specs.Cmp.Lexicographic.{slice_cmp, pointwise, lists_total}
 use Rattle.std.specs.FinMap.{slice_cmp-IsAntisymmetric, int_cmp-IsAntisymmetric}
 use Rattle.ch_timed.specs.Vectors.{same_numbers}
@@ -31,3 +31,13 @@ numbers_same xs ys e = ap (same_numbers xs) (sym e) ∙ ap is_eq (tied_itself (l
 
 pub numbers_told : (xs ys : List ℤ) → (pointwise int_eq xs ys ≡ true → xs ≡ ys) × (xs ≡ ys → pointwise int_eq xs ys ≡ true)
 numbers_told xs ys = (λ h. numbers_are xs ys (sym (numbers_tested xs ys) ∙ h), λ e. numbers_tested xs ys ∙ numbers_same xs ys e)
+
+-- a test that tells whether two numbers are equal
+pub int_eq_by : (t : Bool) (x y : ℤ) → (t ≡ true → x ≡ y) → (x ≡ y → t ≡ true) → t ≡ int_eq x y
+int_eq_by true x y f g = sym (ap (int_eq x) (sym (f refl)) ∙ ap is_eq (tied_itself int_cmp_total x))
+int_eq_by false x y f g = by (int_cmp x y) (int_ranked x y (int_cmp x y) refl)
+  where
+    by : (o : Ordering) → MatchOrdering o (x <ℤ y) (x ≡ y) (y <ℤ x) → false ≡ is_eq o
+    by Less m = refl
+    by Equal m = g m
+    by Greater m = refl

@@ -1,4 +1,5 @@
 pub mod Before
+pub mod Clashes
 pub mod Commutes
 pub mod Equality
 pub mod Euclid

@@ -3,6 +3,7 @@
 #![tactic(auto)]
 
 mod bodies;
+mod cells;
 mod exact;
 mod laws;
 mod numbers;
