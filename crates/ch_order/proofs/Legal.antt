@@ -25,7 +25,7 @@ use Rattle.ch_order.proofs.Steps.{HasSame, distinct, same_identity_self, same_tu
 pub same_steps : (old new : List Element) → IsLegal old new → HasSame old new
 same_steps old new l =
     has_same Step Cell Store same_step conflict execute (λ s. same_identity_self s.identity) (λ s t. same_turned s.identity t.identity) (steps old) (steps new)
-    (distinct old l.old_once) (distinct new l.new_once) (λ s i. (l.members s).0 i) (λ s i. (l.members s).1 i)
+    (distinct old l.old_once) (distinct new l.new_once) l.kept l.no_others
 
 pub legal_end : (old new : List Element) → IsLegal old new → (store : Store) → done old store ≡ done new store
 legal_end old new l store = same_end old new l.old_once (same_steps old new l) l.in_turn store
@@ -58,11 +58,11 @@ flat_all arrays (s ∷ ss) cells = ap (do_all (execute_flat arrays) ss) (flat_st
 pub legal_end_flat : (old new : List Element) → IsLegal old new → (arrays : List ArrayDecl) → StaysInside arrays old → (cells : List ℤ)
     → done_flat arrays old cells ≡ done_flat arrays new cells
 legal_end_flat old new l arrays inside cells =
-    let theirs : StaysInside arrays new = each_of (IsInside arrays) (steps new) (λ s i. at_each (IsInside arrays) (steps old) inside s ((l.members s).1 i)) in
+    let theirs : StaysInside arrays new = each_of (IsInside arrays) (steps new) (λ s i. at_each (IsInside arrays) (steps old) inside s (l.no_others s i)) in
     flat_all arrays (steps old) cells
     ∙ same_end_flat arrays old new l.old_once inside theirs
     (has_same Step Cell (List ℤ) same_step conflict (execute_cells arrays) (λ s. same_identity_self s.identity) (λ s t. same_turned s.identity t.identity) (steps old) (steps new)
-        (distinct old l.old_once) (distinct new l.new_once) (λ s i. (l.members s).0 i) (λ s i. (l.members s).1 i)) l.in_turn cells
+        (distinct old l.old_once) (distinct new l.new_once) l.kept l.no_others) l.in_turn cells
     ∙ sym (flat_all arrays (steps new) cells)
 
 pub neighbours : (front back : List Step) (a b : Step) → conflict a b ≡ None → (store : Store)

@@ -12,4 +12,5 @@ pub mod Legal
 pub mod Members
 pub mod Places
 pub mod Steps
+pub mod Walks
 pub mod WideSums

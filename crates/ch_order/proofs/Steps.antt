@@ -64,3 +64,9 @@ pub same_end : (old new : List Element) → identities_differ old ≡ true → H
 same_end old new d h r s =
     law.same_end Step Cell Store same_step conflict execute (λ _. Unit {0}) (λ a b _ _ n t. commutes a b n t) (λ x. same_identity_self x.identity) apart
     (map step old) (map step new) (distinct old d) (all_fine _) (all_fine _) h r s
+
+pub step_by : (a b : Element) → a.identity ≡ b.identity → a.body ≡ b.body → step a ≡ step b
+step_by a b e f = λ i. record { identity = e i; body = f i }
+
+pub same_identity_of : (a b : Element) → step a ≡ step b → same_identity a.identity b.identity ≡ true
+same_identity_of a b e = subst (λ s. same_identity a.identity s.identity ≡ true) e (same_identity_self a.identity)
