@@ -11,6 +11,7 @@ pub mod Least
 pub mod Legal
 pub mod Members
 pub mod Places
+pub mod Reversals
 pub mod Steps
 pub mod Walks
 pub mod WideSums
