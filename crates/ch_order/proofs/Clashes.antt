@@ -71,8 +71,8 @@ conflict_is a b =
     tested (conflict a b) (same_cell wa wb || (has_cell wa theirs || has_cell wb ours))
     (λ h. let p = apart_from a b h in ap₂ (λ s t. s || t) p.writes (ap₂ (λ s t. s || t) (has_none wa theirs p.theirs) (has_none wb ours p.ours)))
     (λ h. let p = or_parts (same_cell wa wb) (has_cell wa theirs || has_cell wb ours) h in
-        let q = or_parts (has_cell wa theirs) (has_cell wb ours) p.1 in
-        none_clash (cells_of a) (cells_of b) (cells_of a) (reads_free wa wb ours theirs ours (has_each wb ours q.1) (has_last wa wb theirs ∙ ap₂ (λ s t. s || t) q.0 p.0)))
+    let q = or_parts (has_cell wa theirs) (has_cell wb ours) p.1 in
+    none_clash (cells_of a) (cells_of b) (cells_of a) (reads_free wa wb ours theirs ours (has_each wb ours q.1) (has_last wa wb theirs ∙ ap₂ (λ s t. s || t) q.0 p.0)))
 
 -- a right side of two parts reads what they read
 pub reads_parts : (e x y v w : Expr) (c : Cell) (iters : List ℤ) → v ≡ x → w ≡ y → (e ≡ Add x y) ⊎ ((e ≡ Sub x y) ⊎ (e ≡ Mul x y))

@@ -131,12 +131,12 @@ apart_from a b h =
     let theirs = map (cell_of b.identity.iters) (reads b.body.right) in
     let all = each_parts (λ c. (has_cell c (cells_of b) && (writes_cell c (cells_of a) || writes_cell c (cells_of b))) ≡ false) ours (wa ∷ []) (clash_none (cells_of a) (cells_of b) (cells_of a) h) in
     let mine = first_false (has_cell wa (cells_of b)) (writes_cell wa (cells_of a) || writes_cell wa (cells_of b)) all.1.0
-        (or_left _ _ (writes_last wa wa ours ∙ same_cell_self wa)) in
+    (or_left _ _ (writes_last wa wa ours ∙ same_cell_self wa)) in
     let others = each_parts (λ d. same_cell wa d ≡ false) theirs (wb ∷ []) (has_each wa (cells_of b) mine) in
     record {
       writes = others.1.0;
       theirs = each_kept _ _ theirs (λ c e. same_cell_turned wa c e) others.0;
-      ours = each_kept _ _ ours (λ c e. not_written c wb theirs (writes_cell c (cells_of a)) e) all.0
+      ours = each_kept _ _ ours (λ c e. not_written c wb theirs (writes_cell c (cells_of a)) e) all.0;
     }
 
 unwritten : (iters : List ℤ) (b : Step) (s : Store) (accesses : List Access)
@@ -157,4 +157,4 @@ commutes a b h s =
     let mine = same_value a.identity.iters (execute b s) s a.body.right (unwritten a.identity.iters b s (reads a.body.right) apart.ours) in
     let theirs = same_value b.identity.iters (execute a s) s b.body.right (unwritten b.identity.iters a s (reads b.body.right) apart.theirs) in
     λ i c. picks (same_cell c (written a)) (same_cell c (written b)) _ _ _ _ (s c)
-        (λ p q. both_ways _ apart.writes (subst (λ d. same_cell d (written b) ≡ true) (same_cell_is c (written a) p) q)) mine theirs i
+    (λ p q. both_ways _ apart.writes (subst (λ d. same_cell d (written b) ≡ true) (same_cell_is c (written a) p) q)) mine theirs i

@@ -32,9 +32,10 @@ module _ (arrays : List ArrayDecl) where
       → AllInside arrays (map (cell_of iters) accesses) → Each (λ c. same_cell c w ≡ false) (map (cell_of iters) accesses)
       → Agree iters (look arrays (set cells (place_of arrays w) v)) (look arrays cells) accesses
   unchanged iters [] w v cells i h n = tt
-  unchanged iters (a ∷ accesses) w v cells i h n =
-      (get_or-set_other cells (place_of arrays w) (place_of arrays (cell_of iters a)) v (pos 0) (other_place (cell_of iters a) w h.0 i n.0),
-       unchanged iters accesses w v cells i h.1 n.1)
+  unchanged iters (a ∷ accesses) w v cells i h n = (
+    get_or-set_other cells (place_of arrays w) (place_of arrays (cell_of iters a)) v (pos 0) (other_place (cell_of iters a) w h.0 i n.0),
+    unchanged iters accesses w v cells i h.1 n.1,
+  )
 
   pub commutes_flat : (a b : Step) → IsInside arrays a → IsInside arrays b → conflict a b ≡ None → (cells : List ℤ)
       → execute_cells arrays a (execute_cells arrays b cells) ≡ execute_cells arrays b (execute_cells arrays a cells)

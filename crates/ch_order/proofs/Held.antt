@@ -49,7 +49,7 @@ module _ (arrays : List ArrayDecl) where
   all_held (s ∷ ss) t cells i l h =
       subst (λ now. Holds (do_all (execute_flat arrays) ss now) (do_all execute ss (execute s t))) (sym (flat_step arrays s cells))
       (all_held ss (execute s t) (execute_cells arrays s cells) i.1 (length-set cells (place_of arrays (written s)) (right_value s.identity.iters (look arrays cells) s.body.right) ∙ l)
-        (one_held s t cells i.0 l h))
+      (one_held s t cells i.0 l h))
 
   pub held : (list : List Element) (cells : List ℤ) → StaysInside arrays list → length cells ≡ total arrays → (c : Cell) → IsTrue (within_array arrays c.array c.subs)
       → look arrays (done_flat arrays list cells) c ≡ done list (look arrays cells) c

@@ -26,8 +26,8 @@ pub differ_from : (list : List Element) → Ascends list → ((e f : Element) �
 differ_from [] a h = refl
 differ_from (x ∷ xs) a h =
     and_from _ _ (new_in x.identity xs (λ y j. false_from_ne_true _ (λ s.
-        let e : x ≡ y = h x y (inl refl) (inr j) s in
-        not_itself (λ z. z.vector) x (subst (λ z. slice_cmp int_cmp x.vector z.vector ≡ Less) (sym e) (at_each _ xs a.0 y j)))))
+    let e : x ≡ y = h x y (inl refl) (inr j) s in
+    not_itself (λ z. z.vector) x (subst (λ z. slice_cmp int_cmp x.vector z.vector ≡ Less) (sym e) (at_each _ xs a.0 y j)))))
     (differ_from xs a.1 (λ e f i j. h e f (inr i) (inr j)))
 
 pub new_apart : (i : Identity) (xs : List Element) (y : Element) → is_new i xs ≡ true → In y xs → same_identity i y.identity ≡ false
@@ -54,7 +54,7 @@ module _ (old new : List Element) (g : Element → Element) (up : Ascends new) (
       let a = back e i in
       let b = back f j in
       let t : same_identity a.0.identity b.0.identity ≡ true =
-          subst (λ z. same_identity z b.0.identity ≡ true) (identity_of a.0 e a.1.1) (subst (λ z. same_identity e.identity z ≡ true) (identity_of b.0 f b.1.1) s) in
+      subst (λ z. same_identity z b.0.identity ≡ true) (identity_of a.0 e a.1.1) (subst (λ z. same_identity e.identity z ≡ true) (identity_of b.0 f b.1.1) s) in
       sym a.1.1 ∙ ap g (one_identity old a.0 b.0 differ a.1.0 b.1.0 t) ∙ b.1.1)
 
   pub same_kept : HasSame old new
@@ -62,7 +62,7 @@ module _ (old new : List Element) (g : Element → Element) (up : Ascends new) (
       has_same Step Cell Store same_step conflict execute (λ s. same_identity_self s.identity) (λ s t. same_turned s.identity t.identity) (map step old) (map step new)
       (distinct old differ) (distinct new differ_kept)
       (λ s i. let e = in_map step old s i in
-          subst (λ z. In z (map step new)) (keeps e.0 ∙ e.1.1) (map_in step new (g e.0) (there e.0 e.1.0)))
+      subst (λ z. In z (map step new)) (keeps e.0 ∙ e.1.1) (map_in step new (g e.0) (there e.0 e.1.0)))
       (λ s i. let f = in_map step new s i in
-          let e = back f.0 f.1.0 in
-          subst (λ z. In z (map step old)) (sym (keeps e.0) ∙ ap step e.1.1 ∙ f.1.1) (map_in step old e.0 e.1.0))
+      let e = back f.0 f.1.0 in
+      subst (λ z. In z (map step old)) (sym (keeps e.0) ∙ ap step e.1.1 ∙ f.1.1) (map_in step old e.0 e.1.0))

@@ -18,7 +18,6 @@ or_true true = refl
 or_true false = refl
 
 module _ (E C S : Type 0) (same : E → E → Bool) (conflict : E → E → Option C) (exec : E → S → S) where
-
   -- each step has its own identity
   abbrev pub IsDistinct : List E → Type 0
   IsDistinct [] = Unit {0}
@@ -43,7 +42,6 @@ module _ (E C S : Type 0) (same : E → E → Bool) (conflict : E → E → Opti
       (swaps : (a b : E) → Fine a → Fine b → conflict a b ≡ None → (s : S) → exec a (exec b s) ≡ exec b (exec a s))
       (same_self : (x : E) → same x x ≡ true)
       (apart : (x a b : E) → same x a ≡ true → same b a ≡ false → same x b ≡ false) where
-
     without_at : (a x : E) (xs : List E) → same x a ≡ true → without same a (x ∷ xs) ≡ xs
     without_at a x xs h = rw h refl
 

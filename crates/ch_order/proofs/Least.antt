@@ -55,7 +55,7 @@ least_is (x ∷ rest) new a b p s l r = elim l.first_in as (λ _. reversed (x �
   | inl k ↦
       let i = in_rest x b rest (subst (λ z. IsEarlier z b) (sym k) l.apart) l.second_in in
       let none : (f : Element) → In f rest → IsEarlier f b → pair_of new x f ≡ None = λ f j e.
-          subst (λ z. pair_of new z f ≡ None) (sym k) (l.no_second f (inr j) (subst (λ z. IsEarlier z f) k (at_each _ rest s.0 f j)) e) in
+      subst (λ z. pair_of new z f ≡ None) (sym k) (l.no_second f (inr j) (subst (λ z. IsEarlier z f) k (at_each _ rest s.0 f j)) e) in
       ap (λ z. or_else z (reversed rest new)) (some_later new x b rest p s.1 i none (subst (λ z. pair_of new z b ≡ Some p) (sym k) r))
   | inr i ↦
       let early = at_each _ rest s.0 a i in
@@ -66,7 +66,7 @@ least_is (x ∷ rest) new a b p s l r = elim l.first_in as (λ _. reversed (x �
         second_in = j;
         apart = l.apart;
         no_first = λ e f g h. l.no_first e f (inr g) (inr h);
-        no_second = λ f g. l.no_second f (inr g)
+        no_second = λ f g. l.no_second f (inr g);
       }) r
 ]
   where

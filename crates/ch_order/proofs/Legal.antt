@@ -62,7 +62,7 @@ legal_end_flat old new l arrays inside cells =
     flat_all arrays (steps old) cells
     ∙ same_end_flat arrays old new l.old_once inside theirs
     (has_same Step Cell (List ℤ) same_step conflict (execute_cells arrays) (λ s. same_identity_self s.identity) (λ s t. same_turned s.identity t.identity) (steps old) (steps new)
-        (distinct old l.old_once) (distinct new l.new_once) l.kept l.no_others) l.in_turn cells
+    (distinct old l.old_once) (distinct new l.new_once) l.kept l.no_others) l.in_turn cells
     ∙ sym (flat_all arrays (steps new) cells)
 
 pub neighbours : (front back : List Step) (a b : Step) → conflict a b ≡ None → (store : Store)

@@ -9,9 +9,9 @@ pub mod Kept
 pub mod Law
 pub mod Least
 pub mod Legal
+pub mod Loops
 pub mod Members
 pub mod Places
-pub mod Reversals
 pub mod Steps
 pub mod Walks
 pub mod WideSums

@@ -51,13 +51,13 @@ module _ (E C S : Type 0) (same : E → E → Bool) (conflict : E → E → Opti
   in_without a b [] n i = i
   in_without a b (x ∷ xs) n i = elim (cases_Bool (same x a)) as (λ _. In b (without same a (x ∷ xs))) [
     | inl e ↦ rw (without_at a x xs e) (elim i as (λ _. In b xs) [
-        | inl k ↦ absurd (both_ways _ n (subst (λ z. same z a ≡ true) k e))
-        | inr j ↦ j
-      ])
+      | inl k ↦ absurd (both_ways _ n (subst (λ z. same z a ≡ true) k e))
+      | inr j ↦ j
+    ])
     | inr e ↦ rw (without_past a x xs e) (elim i as (λ _. (x ≡ b) ⊎ In b (without same a xs)) [
-        | inl k ↦ inl k
-        | inr j ↦ inr (in_without a b xs n j)
-      ])
+      | inl k ↦ inl k
+      | inr j ↦ inr (in_without a b xs n j)
+    ])
   ]
 
   from_without : (a b : E) (new : List E) → IsDistinct new → In a new → In b (without same a new) → In b new × (same b a ≡ false)
@@ -65,14 +65,14 @@ module _ (E C S : Type 0) (same : E → E → Bool) (conflict : E → E → Opti
   from_without a b (x ∷ xs) d i j = elim (cases_Bool (same x a)) as (λ _. In b (x ∷ xs) × (same b a ≡ false)) [
     | inl e ↦
         let k : In b xs = subst (In b) (without_at a x xs e) j in
-        let here : x ≡ a = elim i as (λ _. x ≡ a) [ | inl s ↦ s | inr m ↦ absurd (only x a xs d.0 m e) ] in
+        let here : x ≡ a = elim i as (λ _. x ≡ a) [ inl s ↦ s | inr m ↦ absurd (only x a xs d.0 m e) ] in
         (inr k, subst (λ z. same b z ≡ false) here (at_each (λ c. same c x ≡ false) xs b d.0 k))
     | inr e ↦
         let k : In b (x ∷ without same a xs) = subst (In b) (without_past a x xs e) j in
         elim k as (λ _. In b (x ∷ xs) × (same b a ≡ false)) [
           | inl s ↦ (inl s, subst (λ z. same z a ≡ false) s e)
           | inr m ↦
-              let i2 : In a xs = elim i as (λ _. In a xs) [ | inl s ↦ absurd (both_ways _ e (subst (λ z. same x z ≡ true) s (same_self x))) | inr t ↦ t ] in
+              let i2 : In a xs = elim i as (λ _. In a xs) [ inl s ↦ absurd (both_ways _ e (subst (λ z. same x z ≡ true) s (same_self x))) | inr t ↦ t ] in
               let r = from_without a b xs d.1 i2 m in (inr r.0, r.1)
         ]
   ]
@@ -85,12 +85,13 @@ module _ (E C S : Type 0) (same : E → E → Bool) (conflict : E → E → Opti
       → law.HasSame E C S same conflict exec old new
   has_same [] new d e f g = nothing new g
   has_same (a ∷ rest) new d e f g =
-      let i = f a (inl refl) in
-      (finds a new e i,
-       has_same rest (without same a new) d.1 (distinct_without a new e)
-       (λ b j. in_without a b new (at_each (λ c. same c a ≡ false) rest b d.0 j) (f b (inr j)))
-       (λ b j. let r = from_without a b new e i j in
-           elim (g b r.0) as (λ _. In b rest) [
-             | inl s ↦ absurd (both_ways _ r.1 (subst (λ z. same z a ≡ true) s (same_self a)))
-             | inr m ↦ m
-           ]))
+      let i = f a (inl refl) in (
+        finds a new e i,
+        has_same rest (without same a new) d.1 (distinct_without a new e)
+            (λ b j. in_without a b new (at_each (λ c. same c a ≡ false) rest b d.0 j) (f b (inr j)))
+            (λ b j. let r = from_without a b new e i j in
+            elim (g b r.0) as (λ _. In b rest) [
+              | inl s ↦ absurd (both_ways _ r.1 (subst (λ z. same z a ≡ true) s (same_self a)))
+              | inr m ↦ m
+            ]),
+      )

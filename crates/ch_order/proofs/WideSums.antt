@@ -47,7 +47,7 @@ ends cs xs k sum total (inr l) h =
 first_end : (m n k terms : ℕ) → terms ≡ min m n → terms ≤ k → m ≤ k ⊎ n ≤ k
 first_end m n k terms e l = elim (cases_order m n) as (λ _. m ≤ k ⊎ n ≤ k) [
   | inl same ↦ inl (omega arith)
-  | inr o ↦ elim o as (λ _. m ≤ k ⊎ n ≤ k) [ | inl less ↦ inl (omega arith) | inr more ↦ inr (omega arith) ]
+  | inr o ↦ elim o as (λ _. m ≤ k ⊎ n ≤ k) [ inl less ↦ inl (omega arith) | inr more ↦ inr (omega arith) ]
 ]
 
 pub sum_ends : (cs xs : List ℤ) (k terms : ℕ) (sum total : ℤ) → terms ≡ min (length cs) (length xs) → terms ≤ k → sum +ℤ dot (drop k cs) (drop k xs) ≡ total → sum ≡ total

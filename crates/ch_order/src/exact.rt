@@ -86,7 +86,10 @@ pub(crate) fn subscript(sub: &Sub, point: &[i64]) -> WideNumber
     ensures low { IsLowPart result.low }
 {
     let form = &sub.form;
-    reduced(weighed(form.constant, form.coefs.as_slice(), point), sub.modulus)
+    reduced(
+        weighed(form.constant, form.coefs.as_slice(), point),
+        sub.modulus,
+    )
 }
 
 pub(crate) fn same_number(a: WideNumber, b: WideNumber) -> bool

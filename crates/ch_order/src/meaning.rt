@@ -150,11 +150,7 @@ fn has_reversed<A: Timed, B: Timed>(alloc: Global, old: &A, new: &B) -> Result<b
 ///
 /// Then both do the same to every store, and to all flat arrays that have each cell which they access. No vector may be
 /// empty. `Err` where memory runs out.
-pub fn same_meaning<A: Timed, B: Timed>(
-    alloc: Global,
-    old: &A,
-    new: &B,
-) -> Result<bool, AllocError>
+pub fn same_meaning<A: Timed, B: Timed>(alloc: Global, old: &A, new: &B) -> Result<bool, AllocError>
     requires old { IsTrue (all_placed (A.list old.now)) }
     requires new { IsTrue (all_placed (B.list new.now)) }
     ensures legal { IfOk result (λ t. IsTrue t ↔ IsLegal (A.list old.now) (B.list new.now)) }

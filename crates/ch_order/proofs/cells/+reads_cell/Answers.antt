@@ -11,5 +11,5 @@ returns-then-reads_cell t c =
 pub returns-else-reads_cell : goal.returns-else-reads_cell
 returns-else-reads_cell t c =
     let parts = reads_parts c.args.expr.now c.in-Add.x c.in-Add.y c.get-in-Add.result.now c.get-else-reads_cell.result.now (cell_of c.args.their_iters.now c.args.access.now) c.args.iters.now
-        c.get-in-Add.ensures c.get-else-reads_cell.ensures c.in-Add.is in
+    c.get-in-Add.ensures c.get-else-reads_cell.ensures c.in-Add.is in
     or_second _ _ _ _ c.reads_cell-in-Add.ensures c.if-reads_cell.false c.reads_cell-else-reads_cell.ensures ∙ sym parts

@@ -3,7 +3,7 @@ use Rattle.std.proofs.lemmas.Bool.{both_ways}
 use Rattle.ch_order.specs.Legal.{AreAmong}
 use Rattle.ch_order.specs.Walk.{rest}
 use Rattle.ch_timed.specs.Timed.{step}
-use Rattle.ch_order.proofs.Reversals.{among_more, among_none, untrue}
+use Rattle.ch_order.proofs.Loops.{among_more, among_none, untrue}
 use Rattle.ch_order.proofs.Walks.{rest_start, found_is, found_in, ended}
 use Rattle.ch_order.proofs.meaning.has_steps.Goals as goal
 
@@ -21,7 +21,7 @@ loop-at-preserved g c = λ h.
     let here = found_is c.in_ok-found.field-0 c.as_slice.result.now c.loop-at.at (g.A.Timed.list c.args.from.now) c.in-Some.found c.in_ok-found.ensures c.in-Some.is c.as_slice.ensures in
     let left = subst (λ v. AreAmong (rest v (g.A.Timed.list c.args.from.now)) (g.B.Timed.list c.args.into.now)) c.into_vector-at.ensures h in
     c.loop-at.invariant (among_more (rest c.loop-at.at (g.A.Timed.list c.args.from.now)) (rest c.in-Some.found.vector (g.A.Timed.list c.args.from.now)) (g.B.Timed.list c.args.into.now) c.in-Some.found here
-      (c.in_ok-has_step.ensures.0 c.if-not-branch.false) left)
+    (c.in_ok-has_step.ensures.0 c.if-not-branch.false) left)
 
 pub returns : goal.returns
 returns g c =

@@ -3,7 +3,7 @@ use Rattle.std.proofs.lemmas.Bool.{and_parts, both_ways}
 use Rattle.ch_order.specs.Legal.{IsLegal}
 use Rattle.ch_timed.specs.Conflict.{reversed}
 use Rattle.ch_order.proofs.Legal.{legal_end, legal_end_flat}
-use Rattle.ch_order.proofs.Reversals.{none_of, not_of}
+use Rattle.ch_order.proofs.Loops.{none_of, not_of}
 use Rattle.ch_order.proofs.meaning.same_meaning.Goals as goal
 
 pub returns-clause-legal : goal.returns-clause-legal
