@@ -1,13 +1,13 @@
 -- In a list in the order of its vectors, to stand before is to have the lesser vector.
-use Rattle.std.proofs.Common.{◌≡◌, refl, sym, ap, ◌∙◌, subst, ℤ, Bool, true, false, not, ◌&&◌, ◌||◌, List, [], ◌∷◌, map, inl, inr}
+use Rattle.std.proofs.Common.{◌≡◌, sym, subst, true, false, not, ◌||◌, List, [], ◌∷◌, map, inl, inr}
 use Rattle.std.proofs.lemmas.Bool.{and_from, and_parts, or_left, or_right, or_cases, both_ways, not-true, not_from_false, false_from_ne_true}
 use Rattle.std.specs.Ordering.{int_cmp}
 use Rattle.std.specs.declared.cmp.Ordering.TheVariants.{Less}
 use Rattle.std.specs.Cmp.Lexicographic.{slice_cmp}
 use Rattle.ch_timed.specs.Order.{is_before}
-use Rattle.ch_timed.specs.Members.{Each, In}
+use Rattle.ch_timed.specs.Members.{In}
 use Rattle.ch_timed.specs.declared.element.Element.{Element}
-use Rattle.ch_timed.specs.Timed.{Step, step, same_step, same_identity, identities_differ}
+use Rattle.ch_timed.specs.Timed.{step, same_step, same_identity, identities_differ}
 use Rattle.ch_timed.proofs.Orders.{IsAscending, at_each, not_both, not_itself}
 use Rattle.ch_order.proofs.Steps.{same_identity_self}
 use Rattle.ch_order.proofs.Kept.{one_identity, new_apart}

@@ -1,6 +1,6 @@
 -- Two steps conflict where they write one cell, or one of them reads what the other writes.
 use Rattle.std.proofs.Common.{◌≡◌, refl, sym, ap, ap₂, ◌∙◌, subst, ℤ, Bool, true, false, ◌&&◌, ◌||◌, Option, Some, None, is_some, List, [], ◌∷◌, ◌++◌, map, ◌⊎◌, inl, inr}
-use Rattle.std.proofs.lemmas.Bool.{cases_Bool, both_ways, or_parts, or_left, or_right, false_from_ne_true}
+use Rattle.std.proofs.lemmas.Bool.{cases_Bool, or_parts}
 use Rattle.ch_nest.specs.declared.nest.Access.{Access}
 use Rattle.ch_nest.specs.declared.nest.Expr.{Expr}
 use Rattle.ch_nest.specs.declared.nest.Expr.TheVariants.{Add, Sub, Mul}
@@ -9,7 +9,7 @@ use Rattle.ch_timed.specs.Timed.{Step}
 use Rattle.ch_timed.specs.Conflict.{cell_of, cells_of, same_cell, has_cell, writes_cell, clash, chosen, conflict, reads, written}
 use Rattle.ch_timed.specs.Members.{Each}
 use Rattle.ch_timed.proofs.Rolls.{reads_add, reads_sub, reads_mul}
-use Rattle.ch_order.proofs.Commutes.{Apart, apart_from, same_cell_is, same_cell_self, same_cell_turned, writes_last, has_each}
+use Rattle.ch_order.proofs.Commutes.{apart_from, same_cell_is, same_cell_turned, writes_last, has_each}
 
 or_assoc : (s t u : Bool) → (s || (t || u)) ≡ ((s || t) || u)
 or_assoc true t u = refl

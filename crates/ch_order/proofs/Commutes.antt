@@ -1,23 +1,23 @@
 -- Two elements without a conflict may change places.
-use Rattle.std.proofs.Common.{◌≡◌, refl, sym, ap, ap₂, ◌∙◌, subst, ℕ, ℤ, ◌+ℤ◌, ◌-ℤ◌, ◌*ℤ◌, neg_ℤ, Bool, true, false, ◌&&◌, ◌||◌, if◌then◌else◌, Option, Some, None, List, [], ◌∷◌, ◌++◌, map, ◌⊎◌, inl, inr}
-use Rattle.std.proofs.lemmas.Bool.{cases_Bool, both_ways, and_parts, or_parts, or_left, or_right, and_cases, false_from_ne_true, and_from, eqb-true, eq-eqb}
+use Rattle.std.proofs.Common.{◌≡◌, refl, sym, ap, ap₂, ◌∙◌, subst, ℤ, ◌+ℤ◌, ◌-ℤ◌, ◌*ℤ◌, neg_ℤ, Bool, true, false, ◌&&◌, ◌||◌, if◌then◌else◌, Option, None, List, [], ◌∷◌, ◌++◌, map, inl, inr}
+use Rattle.std.proofs.lemmas.Bool.{both_ways, and_parts, or_parts, or_left, or_right, and_cases, false_from_ne_true, and_from, eqb-true, eq-eqb}
 use Rattle.std.specs.Int.{int_wrap, w64}
-use Rattle.std.specs.Ordering.{int_cmp, is_eq}
+use Rattle.std.specs.Ordering.{is_eq}
 use Rattle.std.specs.declared.cmp.Ordering.{Ordering}
 use Rattle.std.specs.declared.cmp.Ordering.TheVariants.{Less, Equal, Greater}
 use Rattle.std.specs.Cmp.{tied_itself, int_cmp_total}
-use Rattle.std.specs.Cmp.Lexicographic.{slice_cmp, lists_total}
+use Rattle.std.specs.Cmp.Lexicographic.{lists_total}
 use Rattle.std.specs.FinMap.{slice_cmp-IsAntisymmetric, int_cmp-IsAntisymmetric}
 use Rattle.ch_nest.specs.declared.nest.Access.{Access}
 use Rattle.ch_nest.specs.declared.nest.Expr.{Expr}
 use Rattle.ch_nest.specs.declared.nest.Expr.TheOpen.{Expr-F}
-use Rattle.ch_nest.specs.declared.nest.Expr.TheFolds.{fold-Expr, fold-roll-Expr, ind-Expr}
+use Rattle.ch_nest.specs.declared.nest.Expr.TheFolds.{fold-roll-Expr, ind-Expr}
 use Rattle.ch_nest.specs.declared.nest.Expr.{map-Expr}
-use Rattle.ch_timed.specs.Members.{Each, In}
+use Rattle.ch_timed.specs.Members.{Each}
 use Rattle.ch_timed.specs.declared.element.Cell.{Cell}
 use Rattle.ch_timed.specs.Timed.{Step}
 use Rattle.ch_timed.specs.Conflict.{cell_of, cells_of, same_cell, has_cell, writes_cell, clash, chosen, conflict, reads, reads_step, written}
-use Rattle.ch_timed.specs.Do.{Store, right_value, value_step, execute, done}
+use Rattle.ch_timed.specs.Do.{Store, right_value, value_step, execute}
 
 -- the stores agree on what is read
 abbrev pub Agree : List ℤ → Store → Store → List Access → Type 0

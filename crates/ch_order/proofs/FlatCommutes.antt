@@ -1,5 +1,5 @@
 -- Two steps inside the arrays that do not conflict may change places, on flat arrays too.
-use Rattle.std.proofs.Common.{◌≡◌, ◌≢◌, refl, sym, ap, ap₂, ◌∙◌, subst, ℕ, ℤ, pos, Bool, true, false, Option, None, List, [], ◌∷◌, map, set, get_or, get_or-set_other}
+use Rattle.std.proofs.Common.{◌≡◌, ◌≢◌, sym, ap, ◌∙◌, subst, ℤ, pos, true, false, None, List, [], ◌∷◌, map, set, get_or-set_other}
 use Rattle.std.specs.Bool.{IsTrue}
 use Rattle.std.proofs.lemmas.Bool.{both_ways}
 use Rattle.std.proofs.lemmas.List.{set_comm}
@@ -15,7 +15,7 @@ use Rattle.ch_timed.specs.Timed.{Step, step, same_step, identities_differ}
 use Rattle.ch_timed.specs.Conflict.{cell_of, same_cell, reads, written, conflict, reversed}
 use Rattle.ch_timed.specs.Do.{right_value}
 use Rattle.ch_timed.specs.Flat.{place_of, look, execute_cells, AllInside, IsInside}
-use Rattle.ch_order.proofs.Commutes.{Agree, Apart, apart_from, same_value, same_cell_self}
+use Rattle.ch_order.proofs.Commutes.{Agree, apart_from, same_value, same_cell_self}
 use Rattle.ch_order.proofs.Places.{place_injective}
 use Rattle.ch_order.proofs.Steps.{distinct, apart, same_identity_self}
 

@@ -1,10 +1,10 @@
 -- A change of vectors alone keeps the identities distinct, and the steps.
-use Rattle.std.proofs.Common.{◌≡◌, refl, sym, ap, ◌∙◌, subst, ℤ, Bool, true, false, not, ◌&&◌, List, [], ◌∷◌, map, inl, inr}
+use Rattle.std.proofs.Common.{◌≡◌, refl, sym, ap, ◌∙◌, subst, true, false, List, [], ◌∷◌, map, inl, inr}
 use Rattle.std.proofs.lemmas.Bool.{and_from, and_parts, both_ways, not-true, not_from_false, false_from_ne_true}
 use Rattle.std.specs.Ordering.{int_cmp}
 use Rattle.std.specs.declared.cmp.Ordering.TheVariants.{Less}
 use Rattle.std.specs.Cmp.Lexicographic.{slice_cmp}
-use Rattle.ch_timed.specs.Members.{Each, In}
+use Rattle.ch_timed.specs.Members.{In}
 use Rattle.ch_order.proofs.Members.{has_same}
 use Rattle.ch_timed.specs.declared.element.Cell.{Cell}
 use Rattle.ch_timed.specs.declared.element.Identity.{Identity}
@@ -13,7 +13,7 @@ use Rattle.ch_timed.specs.Timed.{Step, step, same_step, same_identity, is_new, i
 use Rattle.ch_timed.specs.Conflict.{conflict}
 use Rattle.ch_timed.specs.Do.{Store, execute}
 use Rattle.ch_timed.proofs.Orders.{IsAscending, at_each, not_itself, map_in, in_map}
-use Rattle.ch_order.proofs.Steps.{HasSame, distinct, same_identity_is, same_identity_self, same_turned}
+use Rattle.ch_order.proofs.Steps.{HasSame, distinct, same_identity_self, same_turned}
 
 abbrev Ascends : List Element → Type 0
 Ascends = IsAscending (λ e. e.vector)

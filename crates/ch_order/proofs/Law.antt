@@ -1,8 +1,8 @@
 -- Where no conflicting pair is reversed, both lists do the same.
-use Rattle.std.proofs.Common.{◌≡◌, refl, sym, ap, ◌∙◌, subst, Bool, true, false, not, ◌&&◌, ◌||◌, Option, Some, None, List, [], ◌∷◌, ◌⊎◌, inl, inr}
+use Rattle.std.proofs.Common.{◌≡◌, refl, sym, ap, ◌∙◌, subst, Bool, true, false, not, ◌&&◌, ◌||◌, Option, Some, None, List, [], ◌∷◌, inl, inr}
 use Rattle.std.proofs.lemmas.Bool.{cases_Bool, both_ways}
 use Rattle.ch_timed.specs.Members.{Each, In}
-use Rattle.ch_timed.specs.Order.{Pair, do_all, is_before, overtaken, or_else, overtakes, reversed, without}
+use Rattle.ch_timed.specs.Order.{do_all, is_before, overtaken, or_else, overtakes, reversed, without}
 
 or_else_parts : {A : Type 0} (x y : Option A) → or_else x y ≡ None → (x ≡ None) × (y ≡ None)
 or_else_parts (Some a) y h = cc

@@ -1,5 +1,5 @@
 -- A legal list does the same as the one in whose place it stands.
-use Rattle.std.proofs.Common.{◌≡◌, refl, sym, ap, ◌∙◌, ℤ, true, None, List, [], ◌∷◌, ◌++◌, map, inl, inr}
+use Rattle.std.proofs.Common.{◌≡◌, refl, sym, ap, ◌∙◌, ℤ, None, List, [], ◌∷◌, ◌++◌, inl, inr}
 use Rattle.ch_nest.specs.declared.nest.ArrayDecl.{ArrayDecl}
 use Rattle.ch_nest.specs.declared.nest.Expr.{Expr}
 use Rattle.ch_nest.specs.declared.nest.Expr.TheOpen.{Expr-F}
@@ -14,7 +14,7 @@ use Rattle.ch_timed.specs.Flat.{done_flat, execute_cells, execute_flat, look, pl
 use Rattle.ch_timed.specs.Conflict.{written}
 use Rattle.ch_timed.specs.Members.{Each, In}
 use Rattle.ch_timed.specs.Order.{do_all}
-use Rattle.ch_timed.specs.Timed.{Step, step, same_step}
+use Rattle.ch_timed.specs.Timed.{Step, same_step}
 use Rattle.std.proofs.Common.{set}
 use Rattle.ch_order.proofs.Commutes.{commutes}
 use Rattle.ch_order.proofs.FlatCommutes.{same_end_flat}

@@ -1,13 +1,9 @@
 -- What the loops over lists keep, and what their answers tell.
-use Rattle.std.proofs.Common.{◌≡◌, refl, sym, ap, ap₂, ◌∙◌, subst, ℤ, Bool, true, false, not, ◌&&◌, ◌||◌, Option, Some, None, is_some, List, [], ◌∷◌, map, ◌⊎◌, inl, inr}
+use Rattle.std.proofs.Common.{◌≡◌, refl, sym, ap, ◌∙◌, subst, Bool, true, false, not, Option, Some, None, is_some, List, [], ◌∷◌, inl, inr}
 use Rattle.ch_order.specs.Legal.{AreAmong, steps}
-use Rattle.ch_timed.specs.Conflict.{conflict, reversed}
-use Rattle.ch_timed.specs.declared.element.Cell.{Cell}
 use Rattle.ch_timed.specs.declared.element.Element.{Element}
 use Rattle.ch_timed.specs.Members.{In}
-use Rattle.ch_timed.specs.Order.{Pair, is_before, or_else, overtaken, overtakes}
-use Rattle.ch_timed.specs.Order as order
-use Rattle.ch_timed.specs.Timed.{Step, same_identity, same_step, step}
+use Rattle.ch_timed.specs.Timed.{step}
 
 -- members
 

@@ -1,5 +1,5 @@
 -- Two lists of distinct steps with the same members are the same steps in some order.
-use Rattle.std.proofs.Common.{◌≡◌, refl, sym, ap, ◌∙◌, subst, Bool, true, false, Option, None, List, [], ◌∷◌, ◌⊎◌, inl, inr}
+use Rattle.std.proofs.Common.{◌≡◌, refl, sym, subst, Bool, true, false, Option, List, [], ◌∷◌, ◌⊎◌, inl, inr}
 use Rattle.std.proofs.lemmas.Bool.{cases_Bool, both_ways}
 use Rattle.ch_timed.specs.Order.{without}
 use Rattle.ch_order.proofs.Law as law

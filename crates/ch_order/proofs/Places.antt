@@ -1,5 +1,5 @@
 -- Different cells have different flat places.
-use Rattle.std.proofs.Common.{◌≡◌, refl, sym, ap, ap₂, ◌∙◌, subst, ℕ, zero, suc, ◌+◌, ◌*◌, ◌<◌, ◌≤◌, ℤ, pos, negsuc, unsigned_abs, int_lt, Bool, true, false, not, ◌&&◌, List, [], ◌∷◌, map, inl, inr, arith, mul-le-mul_right, mul_assoc, mul-one}
+use Rattle.std.proofs.Common.{◌≡◌, refl, ap, ap₂, ℕ, zero, suc, ◌+◌, ◌*◌, ◌<◌, ◌≤◌, ℤ, pos, unsigned_abs, int_lt, true, false, not, ◌&&◌, List, [], ◌∷◌, inl, inr, arith, mul-le-mul_right, mul_assoc}
 use Rattle.std.specs.Bool.{IsTrue}
 use Rattle.std.proofs.lemmas.Bool.{and_parts, cases_order}
 use Rattle.std.proofs.lemmas.Int.{ints}

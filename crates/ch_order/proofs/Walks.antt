@@ -1,7 +1,7 @@
 -- What is left of a list in order, as it is walked from one element to the next.
-use Rattle.std.proofs.Common.{◌≡◌, refl, sym, ap, ◌∙◌, subst, ℕ, suc, ◌<◌, ℤ, Bool, true, false, Option, Some, None, MatchOption, Result, IfOk, List, [], ◌∷◌, length, map, ◌⊎◌, inl, inr, arith}
+use Rattle.std.proofs.Common.{◌≡◌, refl, sym, ap, ◌∙◌, subst, suc, ◌<◌, ℤ, Bool, true, false, Option, Some, None, MatchOption, Result, IfOk, List, [], ◌∷◌, length, inl, inr, arith}
 use Rattle.std.proofs.lemmas.Result.{IfOk-weaker}
-use Rattle.std.proofs.lemmas.Bool.{cases_Bool, and_parts}
+use Rattle.std.proofs.lemmas.Bool.{and_parts}
 use Rattle.std.specs.Ordering.{int_cmp, is_lt, ordering_reverse}
 use Rattle.std.specs.declared.cmp.Ordering.TheVariants.{Less, Equal}
 use Rattle.std.specs.Cmp.{int_cmp_total, tied_itself, IsTotalOrder}

@@ -1,9 +1,9 @@
 -- Sums and remainders of numbers in two parts.
-use Rattle.std.proofs.Common.{◌≡◌, refl, sym, ap, ap₂, ◌∙◌, subst, ℕ, zero, suc, ◌+◌, ◌*◌, ◌^◌, ◌/◌, ◌<◌, ◌≤◌, ℤ, pos, unsigned_abs, ◌+ℤ◌, ◌*ℤ◌, ◌≤ℤ◌, ◌<ℤ◌, List, [], ◌∷◌, length, get_or, drop, ◌⊎◌, inl, inr, min, arith, mul-le-mul_left}
+use Rattle.std.proofs.Common.{◌≡◌, refl, sym, ap, ap₂, ◌∙◌, subst, ℕ, zero, suc, ◌+◌, ◌*◌, ◌^◌, ◌/◌, ◌<◌, ◌≤◌, ℤ, pos, unsigned_abs, ◌+ℤ◌, ◌*ℤ◌, List, [], ◌∷◌, length, get_or, drop, ◌⊎◌, inl, inr, min, arith, mul-le-mul_left}
 use Rattle.std.proofs.lemmas.Bool.{cases_order}
 use Rattle.std.proofs.lemmas.Int.{ints, unsigned_abs-mul}
 use Rattle.std.proofs.lemmas.List.{drop_more, drop_all}
-use Rattle.std.proofs.Math.IntN.{+ℤ_assoc, *ℤ_comm, pos-*ℤ-pos}
+use Rattle.std.proofs.Math.IntN.{+ℤ_assoc, *ℤ_comm}
 use Rattle.std.specs.Int.{int_div_euclid, int_rem_euclid}
 use Rattle.ch_affine.proofs.Integers.{plus_times, times_plus, times_assoc}
 use Rattle.ch_affine.specs.Affine.{dot}

@@ -1,5 +1,5 @@
 -- Whole numbers in two parts, for sums that are too large for 128 bits.
-use Rattle.std.specs.Prelude.{ℕ, ℤ, pos, ◌+ℤ◌, ◌*ℤ◌, ◌≤ℤ◌, ◌<ℤ◌, ◌^◌}
+use Rattle.std.specs.Prelude.{ℤ, pos, ◌+ℤ◌, ◌*ℤ◌, ◌≤ℤ◌, ◌<ℤ◌, ◌^◌}
 
 -- the number of these parts
 abbrev pub number : ℤ → ℤ → ℤ

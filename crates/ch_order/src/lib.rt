@@ -13,3 +13,6 @@ pub use laws::{
     arrays_hold_the_store, legal_does_same, legal_steps_do_same, neighbours_change_places,
 };
 pub use meaning::same_meaning;
+
+#[cfg(test)]
+mod tests;

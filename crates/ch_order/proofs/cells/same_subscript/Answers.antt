@@ -1,4 +1,4 @@
-use Rattle.std.proofs.Common.{◌≡◌, ap₂, ◌∙◌, sym}
+use Rattle.std.proofs.Common.{ap₂, ◌∙◌}
 use Rattle.std.specs.Ordering.{int_eq}
 use Rattle.ch_order.proofs.Equality.{int_eq_by}
 use Rattle.ch_order.proofs.cells.same_subscript.Goals as goal

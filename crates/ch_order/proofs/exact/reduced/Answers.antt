@@ -1,6 +1,6 @@
-use Rattle.std.proofs.Common.{rules, ◌≡◌, ◌≤◌, ◌<◌, ◌%◌, ◌^◌, ◌+ℤ◌, ◌*ℤ◌, pos, unsigned_abs, ap, ap₂, ◌∙◌, sym, ℕ, ℤ, SFits, to_z, of_z, arith}
+use Rattle.std.proofs.Common.{rules, ◌≡◌, ◌<◌, ◌^◌, ◌+ℤ◌, ◌*ℤ◌, pos, unsigned_abs, ap, ap₂, ◌∙◌, SFits, to_z, of_z, arith}
 use Rattle.std.specs.Int.{int_rem_euclid, w128}
-use Rattle.std.proofs.lemmas.Int.{ints, to_z-of_z}
+use Rattle.std.proofs.lemmas.Int.{ints}
 use Rattle.ch_order.specs.WideNumbers.{number}
 use Rattle.ch_order.proofs.WideSums.{reduced_number}
 use Rattle.ch_order.proofs.exact.reduced.Goals as goal

@@ -1,6 +1,6 @@
-use Rattle.std.proofs.Common.{◌≡◌, ◌≤◌, ◌*◌, ◌^◌, ◌*ℤ◌, unsigned_abs, ap₂, ◌∙◌, sym, SFits, to_z, of_z, arith}
+use Rattle.std.proofs.Common.{◌≡◌, ◌*ℤ◌, ap₂, to_z, of_z, arith}
 use Rattle.std.specs.Int.{w128}
-use Rattle.std.proofs.lemmas.Int.{ints, unsigned_abs-mul}
+use Rattle.std.proofs.lemmas.Int.{ints}
 use Rattle.ch_order.proofs.WideSums.{small_times}
 use Rattle.ch_order.proofs.exact.small_product.Goals as goal
 

@@ -1,4 +1,4 @@
-use Rattle.std.proofs.Common.{◌≡◌, ◌∙◌, sym, ap, subst, refl, []}
+use Rattle.std.proofs.Common.{◌∙◌, sym, ap, subst, refl}
 use Rattle.ch_order.specs.Legal.{steps}
 use Rattle.ch_order.specs.Walk.{rest}
 use Rattle.ch_timed.specs.Members.{In}

@@ -1,4 +1,4 @@
-use Rattle.std.proofs.Common.{◌≡◌, ◌∙◌, sym, ap, subst, refl}
+use Rattle.std.proofs.Common.{◌∙◌, ap, subst, refl}
 use Rattle.std.proofs.lemmas.Bool.{both_ways}
 use Rattle.ch_order.specs.Legal.{AreAmong}
 use Rattle.ch_order.specs.Walk.{rest}

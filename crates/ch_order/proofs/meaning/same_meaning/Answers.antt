@@ -1,6 +1,4 @@
-use Rattle.std.proofs.Common.{◌≡◌, IsTrue, not}
-use Rattle.std.proofs.lemmas.Bool.{and_parts, both_ways}
-use Rattle.ch_order.specs.Legal.{IsLegal}
+use Rattle.std.proofs.lemmas.Bool.{and_parts}
 use Rattle.ch_timed.specs.Conflict.{reversed}
 use Rattle.ch_order.proofs.Legal.{legal_end, legal_end_flat}
 use Rattle.ch_order.proofs.Loops.{none_of, not_of}
