@@ -12,7 +12,6 @@ pub mod Legal
 pub mod Loops
 pub mod Members
 pub mod Places
-pub mod Samples
 pub mod Steps
 pub mod Walks
 pub mod WideSums

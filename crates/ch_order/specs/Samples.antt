@@ -9,7 +9,7 @@ use Rattle.ch_timed.specs.declared.element.Label.TheVariants.{Stmt}
 abbrev pub body : ℤ → Body
 body number = record {
   write = record { array = 0; subs = record { form = record { coefs = pos 1 ∷ []; constant = pos 0 }; modulus = 2 } ∷ [] };
-  right = Number number
+  right = Number number;
 }
 
 abbrev pub named : Bool → ℤ → Identity

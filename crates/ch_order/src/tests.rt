@@ -1,7 +1,7 @@
 //! Lists of two instances of `A[i mod 2] = number`, and a list of none.
 
-ghost use Rattle.std.specs.Prelude.{◌≡◌, IfOk, [], ◌∷◌};
-ghost use Rattle.ch_order.specs.Samples.{instance, named, pair};
+ghost use Rattle.std.specs.Prelude.{◌≡◌, pos, true, false, IfOk, [], ◌∷◌};
+ghost use Rattle.ch_order.specs.Samples.{body, instance, named, pair};
 ghost use Rattle.ch_timed.specs.Vectors.{comes_before};
 
 use crate::same_meaning;
@@ -84,14 +84,11 @@ fn instance(
     })
 }
 
-#[tactic(auto, using(crate::proofs::Samples::begins_below))]
 fn precedes(vector: &[i64], place: i64) -> bool
     ensures { result ≡ comes_before vector.now (place ∷ []) }
 {
-    match vector {
-        [] => true,
-        [first, ..] => *first < place,
-    }
+    let other: &[i64] = &[place];
+    vector.cmp(other).is_lt()
 }
 
 impl Timed for Pair {
