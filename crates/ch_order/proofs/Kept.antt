@@ -1,19 +1,17 @@
 -- A change of vectors alone keeps the identities distinct, and the steps.
-use Rattle.std.proofs.Common.{◌≡◌, refl, sym, ap, ◌∙◌, subst, true, false, List, [], ◌∷◌, map, inl, inr}
+use Rattle.std.proofs.Common.{◌≡◌, refl, sym, ap, ◌∙◌, subst, true, false, None, List, [], ◌∷◌, map, inl, inr}
 use Rattle.std.proofs.lemmas.Bool.{and_from, and_parts, both_ways, not-true, not_from_false, false_from_ne_true}
 use Rattle.std.specs.Ordering.{int_cmp}
 use Rattle.std.specs.declared.cmp.Ordering.TheVariants.{Less}
 use Rattle.std.specs.Cmp.Lexicographic.{slice_cmp}
+use Rattle.ch_order.specs.Legal.{AreAmong, IsLegal}
+use Rattle.ch_timed.specs.Conflict.{reversed}
 use Rattle.ch_timed.specs.Members.{In}
-use Rattle.ch_order.proofs.Members.{has_same}
-use Rattle.ch_timed.specs.declared.element.Cell.{Cell}
 use Rattle.ch_timed.specs.declared.element.Identity.{Identity}
 use Rattle.ch_timed.specs.declared.element.Element.{Element}
-use Rattle.ch_timed.specs.Timed.{Step, step, same_step, same_identity, is_new, identities_differ}
-use Rattle.ch_timed.specs.Conflict.{conflict}
-use Rattle.ch_timed.specs.Do.{Store, execute}
+use Rattle.ch_timed.specs.Timed.{step, same_identity, is_new, identities_differ}
 use Rattle.ch_timed.proofs.Orders.{IsAscending, at_each, not_itself, map_in, in_map}
-use Rattle.ch_order.proofs.Steps.{HasSame, distinct, same_identity_self, same_turned}
+use Rattle.ch_order.proofs.Steps.{same_turned}
 
 abbrev Ascends : List Element → Type 0
 Ascends = IsAscending (λ e. e.vector)
@@ -57,12 +55,17 @@ module _ (old new : List Element) (g : Element → Element) (up : Ascends new) (
       subst (λ z. same_identity z b.0.identity ≡ true) (identity_of a.0 e a.1.1) (subst (λ z. same_identity e.identity z ≡ true) (identity_of b.0 f b.1.1) s) in
       sym a.1.1 ∙ ap g (one_identity old a.0 b.0 differ a.1.0 b.1.0 t) ∙ b.1.1)
 
-  pub same_kept : HasSame old new
-  same_kept =
-      has_same Step Cell Store same_step conflict execute (λ s. same_identity_self s.identity) (λ s t. same_turned s.identity t.identity) (map step old) (map step new)
-      (distinct old differ) (distinct new differ_kept)
-      (λ s i. let e = in_map step old s i in
-      subst (λ z. In z (map step new)) (keeps e.0 ∙ e.1.1) (map_in step new (g e.0) (there e.0 e.1.0)))
-      (λ s i. let f = in_map step new s i in
+  pub steps_kept : AreAmong old new
+  steps_kept s i =
+      let e = in_map step old s i in
+      subst (λ z. In z (map step new)) (keeps e.0 ∙ e.1.1) (map_in step new (g e.0) (there e.0 e.1.0))
+
+  pub no_others : AreAmong new old
+  no_others s i =
+      let f = in_map step new s i in
       let e = back f.0 f.1.0 in
-      subst (λ z. In z (map step old)) (sym (keeps e.0) ∙ ap step e.1.1 ∙ f.1.1) (map_in step old e.0 e.1.0))
+      subst (λ z. In z (map step old)) (sym (keeps e.0) ∙ ap step e.1.1 ∙ f.1.1) (map_in step old e.0 e.1.0)
+
+  -- so the new list is legal where no pair is reversed
+  pub kept_legal : reversed old new ≡ None → IsLegal old new
+  kept_legal h = record { old_once = differ; new_once = differ_kept; kept = steps_kept; no_others = no_others; in_turn = h }

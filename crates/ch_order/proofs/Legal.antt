@@ -55,10 +55,13 @@ flat_all : (arrays : List ArrayDecl) (ss : List Step) (cells : List ℤ) → do_
 flat_all arrays [] cells = refl
 flat_all arrays (s ∷ ss) cells = ap (do_all (execute_flat arrays) ss) (flat_step arrays s cells) ∙ flat_all arrays ss (execute_cells arrays s cells)
 
+pub legal_inside : (old new : List Element) → IsLegal old new → (arrays : List ArrayDecl) → StaysInside arrays old → StaysInside arrays new
+legal_inside old new l arrays inside = each_of (IsInside arrays) (steps new) (λ s i. at_each (IsInside arrays) (steps old) inside s (l.no_others s i))
+
 pub legal_end_flat : (old new : List Element) → IsLegal old new → (arrays : List ArrayDecl) → StaysInside arrays old → (cells : List ℤ)
     → done_flat arrays old cells ≡ done_flat arrays new cells
 legal_end_flat old new l arrays inside cells =
-    let theirs : StaysInside arrays new = each_of (IsInside arrays) (steps new) (λ s i. at_each (IsInside arrays) (steps old) inside s (l.no_others s i)) in
+    let theirs = legal_inside old new l arrays inside in
     flat_all arrays (steps old) cells
     ∙ same_end_flat arrays old new l.old_once inside theirs
     (has_same Step Cell (List ℤ) same_step conflict (execute_cells arrays) (λ s. same_identity_self s.identity) (λ s t. same_turned s.identity t.identity) (steps old) (steps new)

@@ -1,5 +1,5 @@
 -- Two instances, one after the other, for the tests: A[i mod 2] = a number, at i = 0 and at another i.
-use Rattle.std.specs.Prelude.{ℕ, ℤ, pos, Bool, true, false, not, List, [], ◌∷◌}
+use Rattle.std.specs.Prelude.{ℤ, pos, Bool, true, false, not, List, [], ◌∷◌}
 use Rattle.ch_nest.specs.declared.nest.Body.{Body}
 use Rattle.ch_nest.specs.declared.nest.Expr.TheVariants.{Number}
 use Rattle.ch_timed.specs.declared.element.Element.{Element}

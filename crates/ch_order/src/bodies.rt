@@ -1,4 +1,4 @@
-//! Whether two bodies are one.
+//! Whether two bodies are one, part by part.
 
 ghost use Rattle.std.specs.Prelude.{◌≡◌, ◌↔◌, IsTrue};
 ghost use Rattle.ch_nest.specs.declared.nest.Expr.TheVariants.{Iter, Number, Read};

@@ -11,6 +11,7 @@ use crate::exact::{same_number, subscript};
 use ch_nest::{Access, Expr, Sub};
 use ch_timed::Element;
 
+/// Whether two subscripts have one value, each at iterators of its own.
 fn same_subscript(sub: &Sub, iters: &[i64], other: &Sub, their_iters: &[i64]) -> bool
     ensures { result ≡ int_eq (sub_value iters.now sub.now) (sub_value their_iters.now other.now) }
 {

@@ -18,7 +18,7 @@ pub(crate) struct WideNumber {
     pub low: i128,
 }
 
-/// The number with an upper part of at most 2^126 more than before.
+/// The sum. The upper part grows by at most 2^62 + 2, so that there is room for as many terms as a slice has.
 fn plus(sum: WideNumber, more: i128) -> WideNumber
     requires low { IsLowPart sum.low }
     requires room { unsigned_abs sum.high ≤ 2 ^ 126 + 2 ^ 66 }
@@ -33,6 +33,7 @@ fn plus(sum: WideNumber, more: i128) -> WideNumber
     WideNumber { high, low }
 }
 
+/// The product, whatever the factors.
 fn product(a: i64, b: i64) -> i128
     ensures value { result ≡ a *ℤ b }
     ensures bound { unsigned_abs result ≤ 2 ^ 126 }
@@ -53,6 +54,7 @@ fn weighed(constant: i64, coefs: &[i64], point: &[i64]) -> WideNumber
     sum
 }
 
+/// The product of two numbers of magnitude at most 2^32.
 fn small_product(a: i128, b: i128) -> i128
     requires first { unsigned_abs a ≤ 2 ^ 32 }
     requires second { unsigned_abs b ≤ 2 ^ 32 }
@@ -62,7 +64,7 @@ fn small_product(a: i128, b: i128) -> i128
     a * b
 }
 
-/// The remainder from 0 on, where the modulus isn't 0.
+/// The remainder from 0 on; the number itself where the modulus is 0.
 fn reduced(value: WideNumber, modulus: u32) -> WideNumber
     requires low { IsLowPart value.low }
     ensures value { number result.high result.low ≡ modulo modulus (number value.high value.low) }
@@ -92,6 +94,7 @@ pub(crate) fn subscript(sub: &Sub, point: &[i64]) -> WideNumber
     )
 }
 
+/// Whether both are one number: its parts are fixed by it.
 pub(crate) fn same_number(a: WideNumber, b: WideNumber) -> bool
     requires first { IsLowPart a.low }
     requires second { IsLowPart b.low }

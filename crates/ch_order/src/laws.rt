@@ -12,16 +12,18 @@ ghost use Rattle.ch_timed.specs.Flat.{done_flat, look};
 ghost use Rattle.ch_timed.specs.Order.{do_all};
 ghost use Rattle.ch_timed.specs.Timed.{Step};
 
-/// A list that may stand in the place of another one does the same to every store, and to all flat arrays that have each
-/// cell which it accesses.
+/// A list that may stand in the place of another one does the same to every store. It accesses the same cells, and where
+/// flat arrays have all of them it does the same to these.
 pub fn legal_does_same()
     ensures store { (old new : List Element) → IsLegal old new → (store : Store) → done old store ≡ done new store }
+    ensures inside { (old new : List Element) → IsLegal old new → (arrays : List ArrayDecl) → StaysInside arrays old → StaysInside arrays new }
     ensures flat { (old new : List Element) → IsLegal old new → (arrays : List ArrayDecl) → StaysInside arrays old → (cells : List ℤ) → done_flat arrays old cells ≡ done_flat arrays new cells }
 {}
 
 /// Where each of two changes after one another is legal, the last list does what the first one does.
 pub fn legal_steps_do_same()
-    ensures { (first second third : List Element) → IsLegal first second → IsLegal second third → (store : Store) → done first store ≡ done third store }
+    ensures store { (first second third : List Element) → IsLegal first second → IsLegal second third → (store : Store) → done first store ≡ done third store }
+    ensures flat { (first second third : List Element) → IsLegal first second → IsLegal second third → (arrays : List ArrayDecl) → StaysInside arrays first → (cells : List ℤ) → done_flat arrays first cells ≡ done_flat arrays third cells }
 {}
 
 /// Two steps without a conflict may change places where they stand side by side.

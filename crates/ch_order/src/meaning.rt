@@ -1,5 +1,5 @@
-//! Whether two timed lists have the same meaning. The lists are walked from vector to vector and never stored, which takes
-//! time up to the third power of their length.
+//! Whether two timed lists have the same meaning. The lists are walked from vector to vector and never stored; the number of
+//! calls of `Timed::after` is at most about the third power of their length.
 
 ghost use Rattle.std.specs.Prelude.{◌≡◌, ◌↔◌, ◌∷◌, [], ℤ, IfOk, IsTrue, List, MatchOption, is_some};
 ghost use Rattle.ch_nest.specs.declared.nest.ArrayDecl.{ArrayDecl};
@@ -19,12 +19,14 @@ use ch_affine::List;
 use ch_timed::{Element, Timed};
 use std::alloc::{AllocError, Global};
 
+/// Whether both have one identity and one body.
 fn same_step(a: &Element, b: &Element) -> bool
     ensures { IsTrue result ↔ (step a.now ≡ step b.now) }
 {
     same_identity(&a.identity, &b.identity) && same_body(&a.body, &b.body)
 }
 
+/// The vector, without the rest of the element.
 fn into_vector(element: Element) -> List<i64>
     ensures { result ≡ element.vector }
 {
@@ -32,7 +34,7 @@ fn into_vector(element: Element) -> List<i64>
     vector
 }
 
-/// The first element of what is left of a list after a vector.
+/// The first element of what is left of a list after a vector, or `None` where nothing is left.
 fn next<T: Timed>(alloc: Global, list: &T, at: &[i64]) -> Result<Option<Element>, AllocError>
     ensures { IfOk result (λ r. MatchOption r (rest at.now (T.list list.now) ≡ []) (λ e. rest at.now (T.list list.now) ≡ e ∷ rest e.vector (T.list list.now))) }
 {
@@ -149,7 +151,8 @@ fn has_reversed<A: Timed, B: Timed>(alloc: Global, old: &A, new: &B) -> Result<b
 /// Whether two timed lists have the same steps, each once, and no two of them that conflict stand the other way round.
 ///
 /// Then both do the same to every store, and to all flat arrays that have each cell which they access. No vector may be
-/// empty. `Err` where memory runs out.
+/// empty: a walk from the empty vector on would miss it. `Err` where memory runs out. The number of calls of `Timed::after` is at
+/// most about the third power of the lists' length.
 pub fn same_meaning<A: Timed, B: Timed>(alloc: Global, old: &A, new: &B) -> Result<bool, AllocError>
     requires old { IsTrue (all_placed (A.list old.now)) }
     requires new { IsTrue (all_placed (B.list new.now)) }
