@@ -1,11 +1,10 @@
 //! Exact values of affine forms at any point: sums that may be too large for 128 bits.
 
-ghost use Rattle.std.specs.Prelude.{◌≡◌, ◌≤◌, ◌<◌, ◌+◌, ◌*◌, ◌^◌, ◌+ℤ◌, ◌*ℤ◌, pos, unsigned_abs, ◌↔◌, IsTrue};
-ghost use Rattle.ch_affine.specs.Affine.{dot, value};
+ghost use Rattle.std.specs.Prelude.{◌≡◌, ◌≤◌, ◌+◌, ◌^◌, ◌+ℤ◌, ◌*ℤ◌, pos, unsigned_abs, ◌↔◌, IsTrue};
+ghost use Rattle.ch_affine.specs.Affine.{dot};
 ghost use Rattle.ch_nest.specs.Run.{modulo, sub_value};
 ghost use Rattle.ch_order.specs.WideNumbers.{IsLowPart, number};
 
-use ch_affine::Aff;
 use ch_nest::Sub;
 
 /// 2^64, the weight of the upper part.
