@@ -1,0 +1,17 @@
+pub mod Before
+pub mod Clashes
+pub mod Commutes
+pub mod Equality
+pub mod Euclid
+pub mod FlatCommutes
+pub mod Held
+pub mod Kept
+pub mod Law
+pub mod Least
+pub mod Legal
+pub mod Loops
+pub mod Members
+pub mod Places
+pub mod Steps
+pub mod Walks
+pub mod WideSums

@@ -1,0 +1,4 @@
+pub mod Legal
+pub mod WideNumbers
+pub mod Walk
+pub mod Samples

@@ -1,0 +1,173 @@
+//! Whether two timed lists have the same meaning. The lists are walked from vector to vector and never stored; the number of
+//! calls of `Timed::after` is at most about the third power of their length.
+
+ghost use Rattle.std.specs.Prelude.{◌≡◌, ◌↔◌, ◌∷◌, [], ℤ, IfOk, IsTrue, List, MatchOption, is_some};
+ghost use Rattle.ch_nest.specs.declared.nest.ArrayDecl.{ArrayDecl};
+ghost use Rattle.ch_order.specs.Legal.{AreAmong, IsLegal, StaysInside, steps};
+ghost use Rattle.ch_order.specs.Walk.{all_placed, rest};
+ghost use Rattle.ch_timed.specs.Conflict.{conflict, reversed};
+ghost use Rattle.ch_timed.specs.Do.{Store, done};
+ghost use Rattle.ch_timed.specs.Flat.{done_flat};
+ghost use Rattle.ch_timed.specs.Members.{In};
+ghost use Rattle.ch_timed.specs.Order.{is_before, overtaken, overtakes};
+ghost use Rattle.ch_timed.specs.Timed.{same_step, step};
+
+use crate::bodies::same_body;
+use crate::cells::conflicts;
+use crate::numbers::same_identity;
+use ch_affine::List;
+use ch_timed::{Element, Timed};
+use std::alloc::{AllocError, Global};
+
+/// Whether both have one identity and one body.
+fn same_step(a: &Element, b: &Element) -> bool
+    ensures { IsTrue result ↔ (step a.now ≡ step b.now) }
+{
+    same_identity(&a.identity, &b.identity) && same_body(&a.body, &b.body)
+}
+
+/// The vector, without the rest of the element.
+fn into_vector(element: Element) -> List<i64>
+    ensures { result ≡ element.vector }
+{
+    let Element { vector, .. } = element;
+    vector
+}
+
+/// The first element of what is left of a list after a vector, or `None` where nothing is left.
+fn next<T: Timed>(alloc: Global, list: &T, at: &[i64]) -> Result<Option<Element>, AllocError>
+    ensures { IfOk result (λ r. MatchOption r (rest at.now (T.list list.now) ≡ []) (λ e. rest at.now (T.list list.now) ≡ e ∷ rest e.vector (T.list list.now))) }
+{
+    list.known();
+    list.after(alloc, at)
+}
+
+/// Whether the list has the step of an element.
+fn has_step<T: Timed>(alloc: Global, list: &T, element: &Element) -> Result<bool, AllocError>
+    requires { IsTrue (all_placed (T.list list.now)) }
+    ensures { IfOk result (λ t. IsTrue t ↔ In (step element.now) (steps (T.list list.now))) }
+{
+    let mut at = List::new(alloc);
+    while let Some(found) = next(alloc, list, at.as_slice())? {
+        if same_step(&found, element) {
+            return Ok(true);
+        }
+        at = into_vector(found);
+    }
+    Ok(false)
+}
+
+/// Whether each step of the first list is one of the second.
+fn has_steps<A: Timed, B: Timed>(alloc: Global, from: &A, into: &B) -> Result<bool, AllocError>
+    requires from { IsTrue (all_placed (A.list from.now)) }
+    requires into { IsTrue (all_placed (B.list into.now)) }
+    ensures { IfOk result (λ t. IsTrue t ↔ AreAmong (A.list from.now) (B.list into.now)) }
+{
+    let mut at = List::new(alloc);
+    while let Some(found) = next(alloc, from, at.as_slice())? {
+        if !has_step(alloc, into, &found)? {
+            return Ok(false);
+        }
+        at = into_vector(found);
+    }
+    Ok(true)
+}
+
+/// Whether the step of b stands before that of a in the list.
+fn stands_before<T: Timed>(
+    alloc: Global,
+    list: &T,
+    b: &Element,
+    a: &Element,
+) -> Result<bool, AllocError>
+    requires { IsTrue (all_placed (T.list list.now)) }
+    ensures { IfOk result (λ t. t ≡ is_before same_step (step b.now) (step a.now) (steps (T.list list.now))) }
+{
+    let mut at = List::new(alloc);
+    while let Some(found) = next(alloc, list, at.as_slice())? {
+        if same_identity(&found.identity, &a.identity) {
+            return Ok(false);
+        }
+        if same_identity(&found.identity, &b.identity) {
+            return Ok(true);
+        }
+        at = into_vector(found);
+    }
+    Ok(false)
+}
+
+/// Whether both conflict and b stands before a in the list.
+fn overtakes<T: Timed>(
+    alloc: Global,
+    list: &T,
+    b: &Element,
+    a: &Element,
+) -> Result<bool, AllocError>
+    requires { IsTrue (all_placed (T.list list.now)) }
+    ensures { IfOk result (λ t. t ≡ is_some (overtaken (is_before same_step (step b.now) (step a.now) (steps (T.list list.now))) (step a.now) (step b.now) (conflict (step a.now) (step b.now)))) }
+{
+    if !conflicts(a, b) {
+        return Ok(false);
+    }
+    stands_before(alloc, list, b, a)
+}
+
+/// Whether an element of the old list that comes after a has overtaken it in the new list.
+fn is_overtaken<A: Timed, B: Timed>(
+    alloc: Global,
+    a: &Element,
+    old: &A,
+    new: &B,
+) -> Result<bool, AllocError>
+    requires { IsTrue (all_placed (B.list new.now)) }
+    ensures { IfOk result (λ t. t ≡ is_some (overtakes same_step conflict (step a.now) (steps (rest a.now.vector (A.list old.now))) (steps (B.list new.now)))) }
+{
+    let mut at = List::from_slice(alloc, a.vector.as_slice())?;
+    while let Some(b) = next(alloc, old, at.as_slice())? {
+        if overtakes(alloc, new, &b, a)? {
+            return Ok(true);
+        }
+        at = into_vector(b);
+    }
+    Ok(false)
+}
+
+/// Whether a pair of conflicting elements is the other way round in the new list.
+fn has_reversed<A: Timed, B: Timed>(alloc: Global, old: &A, new: &B) -> Result<bool, AllocError>
+    requires old { IsTrue (all_placed (A.list old.now)) }
+    requires new { IsTrue (all_placed (B.list new.now)) }
+    ensures { IfOk result (λ t. t ≡ is_some (reversed (A.list old.now) (B.list new.now))) }
+{
+    let mut at = List::new(alloc);
+    while let Some(a) = next(alloc, old, at.as_slice())? {
+        if is_overtaken(alloc, &a, old, new)? {
+            return Ok(true);
+        }
+        at = into_vector(a);
+    }
+    Ok(false)
+}
+
+/// Whether two timed lists have the same steps, each once, and no two of them that conflict stand the other way round.
+///
+/// Then both do the same to every store, and to all flat arrays that have each cell which they access. No vector may be
+/// empty: a walk from the empty vector on would miss it. `Err` where memory runs out. The number of calls of `Timed::after` is at
+/// most about the third power of the lists' length.
+pub fn same_meaning<A: Timed, B: Timed>(alloc: Global, old: &A, new: &B) -> Result<bool, AllocError>
+    requires old { IsTrue (all_placed (A.list old.now)) }
+    requires new { IsTrue (all_placed (B.list new.now)) }
+    ensures legal { IfOk result (λ t. IsTrue t ↔ IsLegal (A.list old.now) (B.list new.now)) }
+    ensures store { IfOk result (λ t. IsTrue t → (store : Store) → done (A.list old.now) store ≡ done (B.list new.now) store) }
+    ensures flat { IfOk result (λ t. IsTrue t → (arrays : List ArrayDecl) → StaysInside arrays (A.list old.now) → (cells : List ℤ) → done_flat arrays (A.list old.now) cells ≡ done_flat arrays (B.list new.now) cells) }
+{
+    old.known();
+    new.known();
+    if !has_steps(alloc, old, new)? {
+        return Ok(false);
+    }
+    if !has_steps(alloc, new, old)? {
+        return Ok(false);
+    }
+    let reversed = has_reversed(alloc, old, new)?;
+    Ok(!reversed)
+}
