@@ -12,7 +12,6 @@ pub mod Bodies
 pub mod Assembled
 pub mod Turning
 pub mod EndsOf
-
 pub mod Builds
 pub mod TurnSteps
 pub mod FindSteps

@@ -8,6 +8,5 @@ pub mod Fitting
 pub mod Turned
 pub mod Judged
 pub mod Judges
-
 pub mod Judging
 pub mod Renumbered

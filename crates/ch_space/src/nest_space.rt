@@ -14,7 +14,7 @@ use ch_nest::Nest;
 use std::alloc::{AllocError, Global};
 
 /// The space of a nest that does not take too many turns.
-fn sound_space(alloc: Global, nest: &Nest) -> Result<Space, AllocError>
+pub fn sound_space(alloc: Global, nest: &Nest) -> Result<Space, AllocError>
     requires few { items_work nest.now.items [] ≤ most_work }
     ensures { IfOk result (λ space. space ≡ record { list = start nest.now; arrays = length nest.now.arrays; temps = []; weight = 1; commands = 0 }) }
 {
