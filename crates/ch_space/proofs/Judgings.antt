@@ -1,6 +1,5 @@
 -- The walk that judges a nest, one step on, and what its refusal says of the nest.
 use Rattle.std.proofs.Common.{◌≡◌, refl, sym, ap, ap₂, ◌∙◌, subst, ℕ, zero, suc, ◌+◌, ◌<◌, ◌≤◌, ℤ, pos, ◌+ℤ◌, Bool, true, false, ◌&&◌, nat_le, nat_lt, if◌then◌else◌, Option, Some, None, Result, Ok, Err, List, [], ◌∷◌, ◌++◌, length, map, drop, get_or, add-one, inl, inr, arith}
-use Rattle.std.specs.Bool.{IsTrue}
 use Rattle.std.specs.List.{list_all}
 use Rattle.std.specs.Result.{IsErrAnd}
 use Rattle.std.proofs.lemmas.Bool.{cases_lt}
@@ -36,7 +35,7 @@ use Rattle.ch_timed.specs.declared.element.Identity.{Identity}
 use Rattle.ch_timed.specs.declared.element.Label.TheVariants.{Stmt}
 use Rattle.ch_timed.specs.Members.{Each}
 use Rattle.ch_timed.specs.Start.{at_places, start, start_item, turns_listed}
-use Rattle.ch_timed.proofs.ItemCases.{by_items, each_item}
+use Rattle.ch_timed.proofs.ItemCases.{each_item}
 use Rattle.ch_timed.proofs.Rolls.{start_assign, start_loop}
 
 -- whether nothing was found

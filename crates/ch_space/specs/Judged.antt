@@ -1,5 +1,5 @@
 -- Nests that can't be run: they take too many turns, or a subscript leaves its array.
-use Rattle.std.specs.Prelude.{ℕ, suc, ◌+◌, ℤ, Bool, true, false, nat_lt, Option, Some, None, List, [], ◌∷◌, ◌++◌, length, map, take, if◌then◌else◌}
+use Rattle.std.specs.Prelude.{ℕ, suc, ℤ, Bool, true, false, nat_lt, Option, Some, None, List, [], ◌∷◌, ◌++◌, length, map, take, if◌then◌else◌}
 use Rattle.std.specs.List.{sum}
 use Rattle.ch_nest.specs.declared.nest.Access.{Access}
 use Rattle.ch_nest.specs.declared.nest.ArrayDecl.{ArrayDecl}

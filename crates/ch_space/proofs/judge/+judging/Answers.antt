@@ -1,4 +1,4 @@
-use Rattle.std.proofs.Common.{◌++◌, ◌∷◌, [], ◌+◌, ◌+ℤ◌, pos, take, length, rules, SFits, w64, arith, sym}
+use Rattle.std.proofs.Common.{◌+◌, take, length, rules, SFits, w64, arith}
 use Rattle.std.specs.Int.{w128}
 use Rattle.std.proofs.lemmas.Int.{to_z-of_z}
 use Rattle.ch_nest.specs.declared.nest.Item.TheViews.{the_lemmas}

@@ -1,6 +1,6 @@
-use Rattle.std.proofs.Common.{◌∙◌, ap, refl, sym, rules}
+use Rattle.std.proofs.Common.{◌∙◌, ap, sym}
 use Rattle.ch_space.specs.Judged.{judgement}
-use Rattle.ch_space.proofs.Judgings.{ends_judged, none_if_sound, refusal_judged, sound_if_none, walk_judged}
+use Rattle.ch_space.proofs.Judgings.{none_if_sound, refusal_judged, sound_if_none, walk_judged}
 use Rattle.ch_space.proofs.judge.judged.Goals as goal
 
 pub returns-then-is_sound-clause-exact : goal.returns-then-is_sound-clause-exact
