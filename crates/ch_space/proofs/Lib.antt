@@ -15,3 +15,4 @@ pub mod TurnSteps
 pub mod FindSteps
 pub mod Subscripted
 pub mod Judgings
+pub mod AccessCounts
