@@ -1,5 +1,5 @@
 -- The pieces of a nest's statements make a space that stands for the nest's list.
-use Rattle.std.proofs.Common.{◌≡◌, ◌≢◌, refl, sym, ap, ap₂, ◌∙◌, subst, ℕ, zero, suc, ◌+◌, ◌*◌, ◌^◌, ◌<◌, ◌≤◌, ℤ, pos, ◌+ℤ◌, Bool, true, false, cond, ◌&&◌, nat_le, nat_lt, List, [], ◌∷◌, ◌++◌, length, map, inl, inr, arith, append_assoc, append-nil, length-append}
+use Rattle.std.proofs.Common.{◌≡◌, ◌≢◌, refl, sym, ap, ap₂, ◌∙◌, subst, ℕ, zero, suc, ◌+◌, ◌*◌, ◌^◌, ◌<◌, ◌≤◌, ℤ, pos, Bool, true, false, cond, ◌&&◌, nat_le, nat_lt, List, [], ◌∷◌, ◌++◌, length, map, inl, inr, arith, append_assoc, length-append}
 use Rattle.std.specs.Bool.{IsTrue}
 use Rattle.std.specs.Option.{is_some}
 use Rattle.std.specs.List.{All, filter, flat_map, list_all, sum}
@@ -9,8 +9,7 @@ use Rattle.std.proofs.lemmas.List.Elements.{All-nil, All-cons}
 use Rattle.std.specs.Ordering.{int_cmp}
 use Rattle.std.specs.declared.cmp.Ordering.TheVariants.{Less}
 use Rattle.std.specs.Cmp.Lexicographic.{slice_cmp}
-use Rattle.ch_affine.specs.Affine.{IsAtMost, dot, value}
-use Rattle.ch_affine.specs.Form.{Form}
+use Rattle.ch_affine.specs.Affine.{IsAtMost, value}
 use Rattle.ch_affine.specs.declared.system.Range.{Range}
 use Rattle.ch_nest.specs.declared.nest.Access.{Access}
 use Rattle.ch_nest.specs.declared.nest.ArrayDecl.{ArrayDecl}
@@ -23,19 +22,19 @@ use Rattle.ch_nest.proofs.Corners.{lies_small}
 use Rattle.ch_space.specs.declared.level.Level.{Level}
 use Rattle.ch_space.specs.declared.piece.Piece.{Piece}
 use Rattle.ch_space.specs.Built.{zeros, unit, units, boxes_from, piece_of}
-use Rattle.ch_space.specs.Keeps.{most_instances, most_arrays, IsWhole, places_of, AllLater, AreApart, accesses, IsAccess, IsBody, IsMoveBelow, IsSpace}
+use Rattle.ch_space.specs.Keeps.{IsWhole, places_of, AllLater, AreApart, accesses, IsBody, IsMoveBelow, IsSpace}
 use Rattle.ch_space.specs.Pieces.{element_at, elements, instances, listed}
 use Rattle.ch_space.specs.Statements.{Statement, statements, executed, instances_of}
 use Rattle.ch_space.specs.Fitting.{LevelsFit}
 use Rattle.ch_space.proofs.Bodies.{all_from_each, each_in, few_arrays, Fits, body_accesses, is_body, same_dimensions}
 use Rattle.ch_space.proofs.Counted.{in_instances, instances_in, instances_counted}
-use Rattle.ch_space.proofs.Findings.{Has, element_of, start_found, found_start}
+use Rattle.ch_space.proofs.Findings.{element_of, start_found, found_start}
 use Rattle.ch_space.proofs.Membership.{in_flat, flat_in, in_filter, filter_in}
 use Rattle.ch_space.proofs.PieceElements.{each_from_in}
 use Rattle.ch_space.proofs.Rowed.{dot_zeros, dot_front, one_times, lies_between}
 use Rattle.ch_space.proofs.Shapes.{length_boxes, IsFit, Shape, shaped, key, IsEarlier}
 use Rattle.ch_space.proofs.Sums.{instances_few, sum_first}
-use Rattle.ch_space.proofs.Turnings.{Between, length_between}
+use Rattle.ch_space.proofs.Turnings.{length_between}
 use Rattle.ch_timed.specs.Members.{Each, In}
 use Rattle.ch_timed.specs.declared.element.Element.{Element}
 use Rattle.ch_timed.specs.declared.element.Label.TheVariants.{Stmt}
@@ -43,7 +42,7 @@ use Rattle.ch_timed.specs.Start.{start}
 use Rattle.ch_timed.specs.Timed.{is_well_formed}
 use Rattle.ch_timed.specs.Vectors.{woven}
 use Rattle.ch_timed.proofs.Blocks.{start_ascends}
-use Rattle.ch_timed.proofs.Orders.{IsAscending, OneEach, ascending_same, at_each, from_order, in_map, map_in, not_itself, ordered_ascends, to_order}
+use Rattle.ch_timed.proofs.Orders.{IsAscending, OneEach, ascending_same, from_order, in_map, map_in, not_itself, ordered_ascends, to_order}
 use Rattle.ch_timed.proofs.WellFormed.{start_fine}
 
 -- the forms of single variables

@@ -1,9 +1,9 @@
 -- What a space asks of bodies holds of those of a well formed nest.
-use Rattle.std.proofs.Common.{◌≡◌, refl, sym, ap, ap₂, ◌∙◌, subst, ℕ, zero, suc, ◌+◌, ◌<◌, ◌≤◌, ◌*◌, Bool, true, false, ◌&&◌, nat_eq, nat_le, nat_lt, Option, Some, None, List, [], ◌∷◌, ◌++◌, length, map, slice_get, inl, inr, arith}
+use Rattle.std.proofs.Common.{◌≡◌, refl, sym, ap, ◌∙◌, subst, ℕ, zero, suc, ◌<◌, ◌≤◌, ◌*◌, Bool, true, ◌&&◌, nat_eq, nat_le, List, [], ◌∷◌, ◌++◌, length, slice_get, inl, inr, arith}
 use Rattle.std.specs.Bool.{IsTrue}
 use Rattle.std.specs.List.{All, list_all}
 use Rattle.std.specs.Option.{option_map_or}
-use Rattle.std.proofs.lemmas.Bool.{and_parts, eqb-true, leb-true, ltb-true}
+use Rattle.std.proofs.lemmas.Bool.{and_parts, eqb-true, leb-true}
 use Rattle.std.proofs.lemmas.List.Elements.{All-nil, All-cons}
 use Rattle.ch_nest.specs.Arrays.{cells_in, total}
 use Rattle.ch_nest.specs.declared.nest.Access.{Access}
@@ -16,7 +16,6 @@ use Rattle.ch_nest.specs.declared.nest.Sub.{Sub}
 use Rattle.ch_nest.specs.Limits.{most_cells, most_dimensions}
 use Rattle.ch_nest.specs.Shape.{access_fits, arrays_fit, body_fits, coefs_fit, constant_fits, expr_fits, form_fits, has_dimensions, is_array, parts_fit, parts_fit_step, sub_fits}
 use Rattle.ch_space.specs.Keeps.{IsAccess, IsBody, accesses, iters_below, iters_below_step}
-use Rattle.ch_space.proofs.Membership.{in_append}
 use Rattle.ch_timed.specs.Conflict.{reads, reads_step}
 use Rattle.ch_timed.specs.Members.{Each, In}
 

@@ -1,9 +1,9 @@
 -- The instances of a statement's piece are the values that its loops take, and as many as its turns.
-use Rattle.std.proofs.Common.{◌≡◌, refl, sym, ap, ap₂, ◌∙◌, subst, ℕ, zero, suc, ◌+◌, ◌-◌, ◌<◌, ◌≤◌, ℤ, pos, negsuc, ◌+ℤ◌, ◌-ℤ◌, ◌≤ℤ◌, ◌<ℤ◌, unsigned_abs, int_le, ◌⊎◌, Bool, true, false, cond, ◌&&◌, ◌||◌, List, [], ◌∷◌, ◌++◌, length, map, take, inl, inr, arith, length-append}
+use Rattle.std.proofs.Common.{◌≡◌, refl, sym, ap, ap₂, ◌∙◌, subst, ℕ, zero, suc, ◌+◌, ◌-◌, ℤ, pos, negsuc, ◌+ℤ◌, ◌-ℤ◌, ◌≤ℤ◌, ◌<ℤ◌, unsigned_abs, int_le, Bool, true, false, cond, List, [], ◌∷◌, ◌++◌, length, map, take, inl, inr, arith, length-append}
 use Rattle.std.specs.Bool.{IsTrue}
-use Rattle.std.specs.List.{filter, flat_map, list_any}
+use Rattle.std.specs.List.{filter, flat_map}
 use Rattle.std.specs.Ordering.{int_eq}
-use Rattle.std.proofs.lemmas.Bool.{and_parts, both_ways, or_cases, or_left, or_right, cases_lt}
+use Rattle.std.proofs.lemmas.Bool.{and_parts}
 use Rattle.std.proofs.lemmas.Int.{ints, by_lt_z}
 use Rattle.std.proofs.lemmas.List.{length-map, take_all}
 use Rattle.std.proofs.lemmas.List.Elements.{filter-append}
@@ -11,7 +11,7 @@ use Rattle.ch_affine.specs.Rows.{Rows, lies_in, all_hold, system}
 use Rattle.ch_affine.specs.declared.system.Range.{Range}
 use Rattle.ch_nest.specs.Run.{count, low_of, high_of}
 use Rattle.ch_nest.specs.Shape.{box_of}
-use Rattle.ch_nest.proofs.Corners.{LiesFirst, lies_first, lies_length, lies_push}
+use Rattle.ch_nest.proofs.Corners.{lies_first, lies_length, lies_push}
 use Rattle.ch_poly.specs.Points.{upwards, natural, numbers, box_points, points, begins, begins_some}
 use Rattle.ch_poly.proofs.Firsts.{filter_cons}
 use Rattle.ch_space.specs.declared.level.Level.{Level}
@@ -21,9 +21,9 @@ use Rattle.ch_space.specs.Statements.{Statement, sum_turns, turns_below, instanc
 use Rattle.ch_space.specs.Fitting.{LevelsFit}
 use Rattle.ch_space.proofs.Findings.{nth_is}
 use Rattle.ch_space.proofs.Membership.{in_flat, flat_in, in_filter, filter_in, any_from, any_in}
-use Rattle.ch_space.proofs.Rowed.{InLevelBox, in_level_box, rows_hold, rows_held, lies_between}
+use Rattle.ch_space.proofs.Rowed.{in_level_box, rows_hold, rows_held, lies_between}
 use Rattle.ch_space.proofs.Shapes.{length_boxes}
-use Rattle.ch_space.proofs.Turnings.{Between, length_between}
+use Rattle.ch_space.proofs.Turnings.{Between}
 use Rattle.ch_timed.specs.Members.{In}
 use Rattle.ch_timed.proofs.Orders.{in_map, map_in}
 

@@ -1,11 +1,11 @@
 -- The pieces of a nest, found item by item.
-use Rattle.std.proofs.Common.{◌≡◌, refl, sym, ap, ap₂, ◌∙◌, subst, ℕ, zero, suc, ◌+◌, ◌-◌, ◌<◌, ◌≤◌, min, Bool, true, false, cond, ◌&&◌, nat_le, nat_lt, List, [], ◌∷◌, ◌++◌, length, map, take, drop, get_or, arith, append_assoc, append-nil}
+use Rattle.std.proofs.Common.{◌≡◌, refl, sym, ap, ap₂, ◌∙◌, subst, ℕ, zero, suc, ◌+◌, ◌^◌, ◌<◌, ◌≤◌, Bool, true, false, cond, ◌&&◌, nat_lt, List, [], ◌∷◌, ◌++◌, length, map, take, get_or, arith, append_assoc, append-nil}
 use Rattle.std.specs.Bool.{IsTrue}
 use Rattle.std.specs.Option.{is_some}
-use Rattle.std.specs.List.{filter, list_all, sum}
+use Rattle.std.specs.List.{sum}
 use Rattle.std.proofs.lemmas.Bool.{and_parts, lt-ltb}
 use Rattle.std.proofs.lemmas.Bool.Decides.{nat_tests}
-use Rattle.std.proofs.lemmas.List.{take_more, map-append}
+use Rattle.std.proofs.lemmas.List.{map-append}
 use Rattle.std.proofs.lemmas.List.Elements.{filter-append}
 use Rattle.ch_affine.specs.Form.{Form}
 use Rattle.ch_affine.specs.declared.system.Range.{Range}
@@ -17,7 +17,7 @@ use Rattle.ch_nest.specs.declared.nest.Item.TheOpen.{Item-F}
 use Rattle.ch_nest.specs.declared.nest.Item.TheFolds.{fold-roll-Item}
 use Rattle.ch_nest.specs.Limits.{most_cells, most_work}
 use Rattle.ch_nest.specs.LoopNest.{LoopNest}
-use Rattle.ch_nest.specs.Shape.{all_numbered, all_pass, arrays_fit, box_of, head_fits, is_nest, is_small, item_fits, item_fits_step, items_fit}
+use Rattle.ch_nest.specs.Shape.{all_numbered, arrays_fit, box_of, head_fits, is_nest, is_small, item_fits, item_fits_step, items_fit}
 use Rattle.ch_nest.specs.Sound.{items_work}
 use Rattle.ch_nest.proofs.Fits.{loop_fits_is}
 use Rattle.ch_nest.proofs.Turns.{fit_at}
@@ -25,7 +25,7 @@ use Rattle.ch_space.specs.declared.level.Level.{Level}
 use Rattle.ch_space.specs.declared.nest_pieces.Found.{Found}
 use Rattle.ch_space.specs.declared.piece.Piece.{Piece}
 use Rattle.ch_space.specs.Built.{boxes_from, piece_of}
-use Rattle.ch_space.specs.Fitting.{Adds, AreBelow, IsBelow, LevelsFit, capped}
+use Rattle.ch_space.specs.Fitting.{Adds, AreBelow, IsBelow, are_short, capped, is_short}
 use Rattle.ch_space.specs.Keeps.{most_instances, IsSpace}
 use Rattle.ch_space.specs.Listed.{Listed}
 use Rattle.ch_space.specs.Pieces.{listed}
@@ -33,6 +33,7 @@ use Rattle.ch_space.specs.Statements.{Statement, Finding, at_numbers, executed, 
 use Rattle.ch_space.proofs.Assembled.{assembled, counts_of, listed_is, pieces_of, sum_filter}
 use Rattle.ch_space.proofs.Bodies.{few_arrays}
 use Rattle.ch_space.proofs.Shapes.{boxes_last, levels_last}
+use Rattle.ch_space.proofs.Short.{few_items, item_short, loop_short, nest_short}
 use Rattle.ch_space.proofs.Sums.{instances_few, sum_first}
 use Rattle.ch_timed.specs.Start.{start}
 
@@ -41,6 +42,7 @@ item_below items levels item k l is b = record {
   arrays = b.arrays;
   fit = b.fit;
   item_fits = subst (λ i. IsTrue (item_fits b.arrays i (boxes_from [] levels))) (sym is) (fit_at b.arrays items (boxes_from [] levels) k item l b.items_fit);
+  short = subst (λ i. IsTrue (is_short i)) (sym is) (item_short items k item l b.short);
 }
 
 pub loop_below : (item : Item) (lows highs : List Form) (items : List Item) (levels : List Level) → item ≡ Loop lows highs items → IsBelow item levels
@@ -57,6 +59,7 @@ loop_below item lows highs items levels is b =
       arrays = b.arrays;
       fit = levels_last [] levels l b.fit (and_parts _ _ top).0 (and_parts (is_small box) (items_fit b.arrays items (boxes ++ box ∷ [])) below).0;
       items_fit = subst (λ z. IsTrue (items_fit b.arrays items z)) (sym (boxes_last [] levels l)) (and_parts (is_small box) (items_fit b.arrays items (boxes ++ box ∷ [])) below).1;
+      short = loop_short lows highs items (subst (λ i. IsTrue (is_short i)) is b.short);
     }
 
 pub inside_below : (item : Item) (lows highs : List Form) (items below : List Item) (levels inside : List Level) (ls hs : List Form) → item ≡ Loop lows highs items → IsBelow item levels
@@ -129,6 +132,9 @@ adds_more items item levels places here k place old now new l is ep eh a b =
     (adds_both (at_numbers 0 (map statements_of (take k items)) levels places) (statements_of (get_or items k item) levels (places ++ (0 + k) ∷ [])) old now new a
     (subst (λ ss. Adds ss now new) same b))
 
+pub places_fit : (items : List Item) (levels : List Level) (k : ℕ) → k < length items → AreBelow items levels → k < 2 ^ 32
+places_fit items levels k l b = let f = few_items items b.short in omega arith
+
 pub adds_none : (old : Found) → Adds [] old old
 adds_none old = record { pieces = sym (append-nil old.pieces); counts = sym (append-nil old.counts) }
 
@@ -192,6 +198,7 @@ top_below nest items known is = record {
   fit = tt;
   items_fit = subst (λ z. IsTrue (items_fit nest.arrays z [])) (sym is)
       (and_parts (is_some (all_numbered nest.items 0)) (items_fit nest.arrays nest.items []) (and_parts (arrays_fit nest.arrays) (is_some (all_numbered nest.items 0) && items_fit nest.arrays nest.items []) known).1).1;
+  short = subst (λ z. IsTrue (are_short z)) (sym is) (nest_short nest known);
 }
 
 -- the space that is made

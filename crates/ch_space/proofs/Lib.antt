@@ -16,3 +16,9 @@ pub mod FindSteps
 pub mod Subscripted
 pub mod Judgings
 pub mod AccessCounts
+pub mod Short
+pub mod Turning
+pub mod EndsOf
+pub mod NextPlaces
+pub mod ClosedPieces
+pub mod PlacesInOrder

@@ -12,13 +12,14 @@ use Rattle.std.proofs.lemmas.Bool.Decides.{nat_tests}
 use Rattle.std.proofs.lemmas.List.{length-map, get_or-map}
 use Rattle.ch_timed.specs.declared.element.Element.{Element}
 use Rattle.ch_timed.specs.Groups.{piece}
+use Rattle.ch_timed.specs.Members.{In}
 use Rattle.ch_timed.specs.Timed.{pieces}
 use Rattle.ch_timed.specs.Vectors.{same_numbers, shares}
 use Rattle.ch_space.specs.declared.piece.Piece.{Piece}
 use Rattle.ch_space.specs.Pieces.{instances, listed}
 use Rattle.ch_space.specs.Keeps.{places_of, AreApart}
 use Rattle.ch_space.specs.Members.{members, group, sharing}
-use Rattle.ch_space.proofs.PieceNumbers.{how_many, nth_places, member_count, labelled, group_is, kept_more}
+use Rattle.ch_space.proofs.PieceNumbers.{how_many, nth_places, member_count, labelled, group_is, kept_more, nth_in}
 
 some_item : {X : Type 0} (xs : List X) (k : ℕ) → k < length xs → X
 some_item [] k h = absurd (omega arith)
@@ -45,6 +46,9 @@ module _ (list : List Element) (ps : List Piece) (a : AreApart ps) (e : listed p
   label_at all k d s h =
       subst (λ z. All (λ e. e.identity.label ≡ (get_or z k d).label) (members list k)) (sym s)
       (subst (λ z. All (λ e. e.identity.label ≡ (get_or ps k d).label) (members z k)) e (labelled ps k d a (inside k h)))
+
+  pub found_in : (all : List Piece) (k : ℕ) (d : Piece) → all ≡ ps → d ≡ get_or all k d → k < length (pieces list) → In d ps
+  found_in all k d s f h = subst (λ z. In z ps) (sym (f ∙ ap (λ z. get_or z k d) s)) (nth_in ps k d (inside k h))
 
   pub counted_at : (counts : List ℕ) (k : ℕ) → counts ≡ map (λ p. length (instances p)) ps → k < length (pieces list) → get_or counts k 0 ≡ length (members list k)
   counted_at counts k c h = member_count ps counts k a c (inside k h) (some_item ps k (inside k h)) ∙ ap (λ z. length (members z k)) e

@@ -1,20 +1,19 @@
 -- The rows and boxes of loops hold exactly at the values that the loops take.
-use Rattle.std.proofs.Common.{◌≡◌, refl, sym, ap, ap₂, ◌∙◌, subst, ℕ, zero, suc, ◌+◌, ◌-◌, ◌<◌, ◌≤◌, ℤ, pos, negsuc, ◌+ℤ◌, ◌-ℤ◌, ◌*ℤ◌, neg_ℤ, ◌≤ℤ◌, Bool, true, ◌&&◌, int_le, nat_le, List, [], ◌∷◌, ◌++◌, length, map, arith, append_assoc, append-nil, length-append}
+use Rattle.std.proofs.Common.{◌≡◌, refl, sym, ap, ◌∙◌, subst, ℕ, zero, suc, ◌+◌, ◌-◌, ◌≤◌, ℤ, pos, negsuc, ◌+ℤ◌, ◌-ℤ◌, ◌*ℤ◌, neg_ℤ, ◌≤ℤ◌, Bool, true, ◌&&◌, int_le, nat_le, List, [], ◌∷◌, ◌++◌, length, map, arith, append_assoc, append-nil, length-append}
 use Rattle.std.specs.Bool.{IsTrue}
 use Rattle.std.specs.List.{list_all}
 use Rattle.std.proofs.lemmas.Bool.{and_parts, leb-true}
 use Rattle.std.proofs.lemmas.Int.{ints, clamps}
-use Rattle.std.proofs.lemmas.List.{length-map}
 use Rattle.std.proofs.lemmas.List.Folds.{list_all-append}
 use Rattle.std.proofs.Math.IntN.{zero-*ℤ}
 use Rattle.ch_affine.specs.Affine.{dot, value}
 use Rattle.ch_affine.specs.Form.{Form}
 use Rattle.ch_affine.specs.Rows.{lies_in, all_hold}
 use Rattle.ch_affine.specs.declared.system.Range.{Range}
-use Rattle.ch_affine.proofs.Integers.{plus_times, times_zero}
+use Rattle.ch_affine.proofs.Integers.{plus_times}
 use Rattle.ch_nest.specs.Limits.{most_forms}
-use Rattle.ch_nest.specs.Run.{low_of, high_of, greatest, least}
-use Rattle.ch_nest.specs.Shape.{are_few, box_of, coefs_fit, constant_fits, head_fits, high_end, highs_fit, low_end, lows_fit, raised_fits, IsSmall}
+use Rattle.ch_nest.specs.Run.{low_of, high_of}
+use Rattle.ch_nest.specs.Shape.{are_few, box_of, coefs_fit, constant_fits, head_fits, highs_fit, lows_fit}
 use Rattle.ch_nest.proofs.Corners.{lies_push, low_above, high_below}
 use Rattle.ch_nest.proofs.Fits.{head_lows, head_highs}
 use Rattle.ch_nest.proofs.Turns.{form_coefs}

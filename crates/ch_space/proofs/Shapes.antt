@@ -1,5 +1,5 @@
 -- The statements of a well formed nest: their loops and bodies fit, and their places ascend.
-use Rattle.std.proofs.Common.{◌≡◌, refl, sym, ap, ap₂, ◌∙◌, subst, ℕ, zero, suc, ◌+◌, ◌<◌, ◌≤◌, ℤ, pos, ◌<ℤ◌, ◌&&◌, nat_lt, true, List, [], ◌∷◌, ◌++◌, length, map, inl, inr, arith, append_assoc, append-nil, length-append}
+use Rattle.std.proofs.Common.{◌≡◌, refl, sym, ap, ap₂, ◌∙◌, subst, ℕ, suc, ◌+◌, ◌<◌, ◌≤◌, ℤ, pos, ◌&&◌, nat_lt, List, [], ◌∷◌, ◌++◌, length, map, arith, append_assoc, append-nil, length-append}
 use Rattle.std.specs.Bool.{IsTrue}
 use Rattle.std.proofs.lemmas.Bool.{and_parts}
 use Rattle.std.proofs.lemmas.Int.{ints}
@@ -8,10 +8,8 @@ use Rattle.std.specs.Ordering.{int_cmp, ordering_then}
 use Rattle.std.specs.declared.cmp.Ordering.TheVariants.{Less}
 use Rattle.std.specs.Cmp.{tied_itself, int_cmp_total}
 use Rattle.std.specs.Cmp.Lexicographic.{slice_cmp}
-use Rattle.ch_affine.specs.Form.{Form}
 use Rattle.ch_affine.specs.declared.system.Range.{Range}
 use Rattle.ch_nest.specs.declared.nest.ArrayDecl.{ArrayDecl}
-use Rattle.ch_nest.specs.declared.nest.Body.{Body}
 use Rattle.ch_nest.specs.declared.nest.Item.{Item, map-Item}
 use Rattle.ch_nest.specs.declared.nest.Item.TheOpen.{Item-F}
 use Rattle.ch_nest.specs.declared.nest.Item.TheFolds.{fold-roll-Item, ind-Item}
@@ -20,7 +18,7 @@ use Rattle.ch_space.specs.declared.level.Level.{Level}
 use Rattle.ch_space.specs.Built.{boxes_from}
 use Rattle.ch_space.specs.Fitting.{LevelsFit}
 use Rattle.ch_space.specs.Statements.{Statement, Finding, at_numbers, statements_step, statements_of, statements}
-use Rattle.ch_timed.specs.Members.{Each, In}
+use Rattle.ch_timed.specs.Members.{Each}
 use Rattle.ch_timed.proofs.Blocks.{int_less}
 use Rattle.ch_timed.proofs.Orders.{IsAscending, each_more}
 

@@ -1,5 +1,5 @@
 -- The statements of a nest have together at most as many instances as it takes turns and instances.
-use Rattle.std.proofs.Common.{◌≡◌, refl, sym, ap, ap₂, ◌∙◌, subst, ℕ, zero, suc, ◌+◌, ◌<◌, ◌≤◌, ℤ, pos, ◌+ℤ◌, List, [], ◌∷◌, ◌++◌, map, arith}
+use Rattle.std.proofs.Common.{◌≡◌, refl, sym, ap, ap₂, ◌∙◌, subst, ℕ, zero, suc, ◌+◌, ◌≤◌, ℤ, pos, ◌+ℤ◌, List, [], ◌∷◌, ◌++◌, map, arith}
 use Rattle.std.specs.List.{fold, sum}
 use Rattle.ch_nest.specs.declared.nest.Item.{Item, map-Item}
 use Rattle.ch_nest.specs.declared.nest.Item.TheOpen.{Item-F}

@@ -1,5 +1,5 @@
 -- Turns of loops one inside another, counted one by one.
-use Rattle.std.proofs.Common.{◌≡◌, refl, sym, ap, ap₂, ◌∙◌, subst, ℕ, zero, suc, ◌+◌, ◌-◌, ◌<◌, ◌≤◌, ◌^◌, min, ℤ, pos, ◌+ℤ◌, ◌≤ℤ◌, true, List, [], ◌∷◌, ◌++◌, length, take, drop, get_or, arith, length-append, ◌==◌}
+use Rattle.std.proofs.Common.{◌≡◌, refl, sym, ap, ap₂, ◌∙◌, subst, ℕ, zero, suc, ◌+◌, ◌-◌, ◌<◌, ◌≤◌, ◌^◌, ℤ, pos, ◌+ℤ◌, ◌≤ℤ◌, true, List, [], ◌∷◌, ◌++◌, length, take, drop, get_or, arith, ◌==◌}
 use Rattle.std.proofs.lemmas.Bool.{eqb-true}
 use Rattle.std.specs.Bool.{IsTrue}
 use Rattle.std.specs.List.{All, list_all}
@@ -17,7 +17,6 @@ use Rattle.ch_nest.proofs.Rests.{rest-cons}
 use Rattle.ch_nest.proofs.Turns.{LoopAt, ends_small, nth_below}
 use Rattle.ch_space.specs.declared.level.Level.{Level}
 use Rattle.ch_space.specs.Fitting.{capped, LevelsAt, LevelsFit}
-use Rattle.ch_space.specs.Keeps.{most_instances}
 use Rattle.ch_space.specs.Statements.{sum_turns, turns_below}
 use Rattle.ch_space.proofs.Rowed.{in_level_box}
 

@@ -1,5 +1,5 @@
 -- The values that loops around one another take together.
-use Rattle.std.proofs.Common.{◌≡◌, refl, sym, ap, ◌∙◌, subst, ℕ, suc, ◌+◌, ℤ, pos, ◌≤ℤ◌, List, [], ◌∷◌, ◌++◌, length, append_assoc, append-nil}
+use Rattle.std.proofs.Common.{◌≡◌, refl, sym, ap, subst, suc, ℤ, ◌≤ℤ◌, List, [], ◌∷◌, ◌++◌, length, append_assoc, append-nil}
 use Rattle.ch_nest.specs.Run.{low_of, high_of}
 use Rattle.ch_space.specs.declared.level.Level.{Level}
 

@@ -8,3 +8,5 @@ pub mod Fitting
 pub mod Judged
 pub mod Judging
 pub mod Judges
+pub mod Turned
+pub mod Renumbered

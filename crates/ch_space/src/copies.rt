@@ -3,6 +3,7 @@
 ghost use Rattle.std.specs.Prelude.{◌≡◌, IfOk};
 
 use crate::piece::Piece;
+use crate::space::Space;
 use ch_affine::{Aff, Boxed, List, System};
 use ch_nest::{Access, Body, Expr, Sub};
 use std::alloc::{AllocError, Global};
@@ -108,5 +109,42 @@ pub fn copied_piece(alloc: Global, piece: &Piece) -> Result<Piece, AllocError>
         system: copied_system(alloc, &piece.system)?,
         origin: copied_forms(alloc, piece.origin.as_slice())?,
         places: List::from_slice(alloc, piece.places.as_slice())?,
+    })
+}
+
+pub fn copied_pieces(alloc: Global, pieces: &[Piece]) -> Result<List<Piece>, AllocError>
+    ensures { IfOk result (λ copy. copy ≡ pieces.now) }
+{
+    let mut copy = List::with_capacity(alloc, pieces.len())?;
+    for piece in pieces {
+        copy.push(copied_piece(alloc, piece)?)?;
+    }
+    Ok(copy)
+}
+
+fn copied_lists(alloc: Global, lists: &[List<u32>]) -> Result<List<List<u32>>, AllocError>
+    ensures { IfOk result (λ copy. copy ≡ lists.now) }
+{
+    let mut copy = List::with_capacity(alloc, lists.len())?;
+    for list in lists {
+        copy.push(List::from_slice(alloc, list.as_slice())?)?;
+    }
+    Ok(copy)
+}
+
+/// A space of its own that stands for the same list.
+pub fn copied_space(alloc: Global, space: &Space) -> Result<Space, AllocError>
+    ensures { IfOk result (λ copy. copy ≡ space.now) }
+{
+    let pieces = copied_pieces(alloc, space.pieces.as_slice())?;
+    let counts = List::from_slice(alloc, space.counts.as_slice())?;
+    let temps = copied_lists(alloc, space.temps.as_slice())?;
+    Ok(Space {
+        arrays: space.arrays,
+        pieces,
+        counts,
+        temps,
+        weight: space.weight,
+        commands: space.commands,
     })
 }

@@ -2,8 +2,10 @@
 #![tactic(auto)]
 
 mod accesses;
+mod closing;
 pub mod copies;
 mod error;
+mod extremes;
 mod judge;
 #[cfg(test)]
 mod judge_tests;
@@ -19,7 +21,9 @@ mod space;
 mod turns;
 
 pub use accesses::Leaving;
+pub use closing::close_up;
 pub use error::SpaceError;
+pub use extremes::ends;
 pub use judge::{judged, judgement_is_sound};
 pub use nest_space::of_nest;
 pub use piece::Piece;

@@ -80,7 +80,7 @@ fn add_statement(
 
 /// Adds the pieces of the statements of the items of a body.
 #[cycle(find)]
-#[tactic(auto, using(crate::proofs::FindSteps::adds_none))]
+#[tactic(auto, using(crate::proofs::FindSteps::adds_none, crate::proofs::FindSteps::places_fit))]
 pub(crate) fn find_items(
     alloc: Global,
     items: &[Item],
@@ -92,11 +92,7 @@ pub(crate) fn find_items(
     ensures { OnOk result (Adds (at_numbers 0 (map statements_of items.now) levels.now places.now) found.old found.new) }
 {
     for k in 0..items.len() {
-        // No nest has so many items.
-        let Ok(place) = u32::try_from(k) else {
-            return Err(AllocError);
-        };
-        let places_here = places_inside(alloc, places, place)?;
+        let places_here = places_inside(alloc, places, k as u32)?;
         find_item(alloc, &items[k], levels, places_here.as_slice(), found)?;
     }
     Ok(())

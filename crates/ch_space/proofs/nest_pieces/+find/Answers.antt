@@ -1,4 +1,4 @@
-use Rattle.std.proofs.Common.{refl, rules, length, arith, [], ◌∙◌}
+use Rattle.std.proofs.Common.{refl, rules, arith, [], ◌∙◌}
 use Rattle.ch_nest.specs.declared.nest.Item.TheViews.{the_lemmas}
 use Rattle.ch_space.proofs.Builds.{levels_few}
 use Rattle.ch_space.proofs.FindSteps.{adds_more, inside_below, item_below}
@@ -22,5 +22,5 @@ find_items-find_item-requires t c = (
 
 pub find_items-loop-k-preserved : goal.find_items-loop-k-preserved
 find_items-loop-k-preserved t c =
-    adds_more c.args.items.now c.index-items-k.result c.args.levels.now c.args.places.now c.as_slice.result.now c.loop-k.k c.in-Ok.place _ _ _ c.loop-k-test.true c.index-items-k.is
-    c.in-Ok.ensures.1 (c.as_slice.ensures ∙ c.in_ok-places_here.ensures) c.loop-k.invariant c.in_ok-find_item.ensures
+    adds_more c.args.items.now c.index-items-k.result c.args.levels.now c.args.places.now c.as_slice.result.now c.loop-k.k c.loop-k.k _ _ _ c.loop-k-test.true c.index-items-k.is
+    refl (c.as_slice.ensures ∙ c.in_ok-places_here.ensures) c.loop-k.invariant c.in_ok-find_item.ensures

@@ -1,4 +1,3 @@
-use Rattle.std.proofs.Common.{get_or}
 use Rattle.ch_space.proofs.Builds.{short_at}
 use Rattle.ch_space.proofs.rows.rows_of.Goals as goal
 

@@ -1,4 +1,4 @@
-use Rattle.std.proofs.Common.{◌≡◌, SFits, w64, rules, [], take, drop, length, ◌+◌, ◌-◌, arith, sym}
+use Rattle.std.proofs.Common.{SFits, w64, rules, take, drop, length, ◌+◌, ◌-◌, arith}
 use Rattle.std.specs.Int.{w128}
 use Rattle.std.proofs.lemmas.Int.{to_z-of_z}
 use Rattle.ch_nest.proofs.Turns.{nth_in_order}
