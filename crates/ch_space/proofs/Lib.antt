@@ -17,6 +17,7 @@ pub mod TurnSteps
 pub mod FindSteps
 pub mod Subscripted
 pub mod Judgings
+pub mod AccessCounts
 pub mod Short
 pub mod NextPlaces
 pub mod ClosedPieces

@@ -102,7 +102,8 @@ fn the_first_access_that_leaves(rt: HostRuntime) -> Result<(), Fail> {
             assert_eq!(rt; cell.array, 0);
             assert_eq!(rt; cell.subs.as_slice(), [3].as_slice());
         }
-        _ => assert!(rt; false, "not refused"),
+        Ok(_space) => assert!(rt; false, "not refused"),
+        Err(_other) => assert!(rt; false, "refused for something else"),
     }
     Ok(())
 }
