@@ -31,38 +31,56 @@ fn loop_of(alloc: Global, low: Aff, high: Aff, items: List<Item>) -> Result<Item
     Ok(Item::Loop { lows, highs, items })
 }
 
+/// `A[i] = 1`
+fn outer(alloc: Global) -> Result<Item, Fail> {
+    let write = access(alloc, &[1], 0)?;
+    let right = Expr::Number(1);
+    let body = Body { write, right };
+    Ok(Item::Assign { label: 0, body })
+}
+
+/// `A[j + shift] = A[i]`
+fn inner(alloc: Global, shift: i64) -> Result<Item, Fail> {
+    let write = access(alloc, &[0, 1], shift)?;
+    let right = Expr::Read(access(alloc, &[1, 0], 0)?);
+    let body = Body { write, right };
+    Ok(Item::Assign { label: 1, body })
+}
+
+/// A loop over j from `first` to i.
+fn below(alloc: Global, first: i64, item: Item) -> Result<Item, Fail> {
+    let items = one(alloc, item)?;
+    let low = form(alloc, &[0], first)?;
+    let high = form(alloc, &[1], 0)?;
+    Ok(loop_of(alloc, low, high, items)?)
+}
+
+/// A loop over i from 0 to below `rows`.
+fn top(alloc: Global, rows: i64, items: List<Item>) -> Result<Item, Fail> {
+    let low = form(alloc, &[], 0)?;
+    let high = form(alloc, &[], rows.saturating_sub(1))?;
+    Ok(loop_of(alloc, low, high, items)?)
+}
+
+fn three_cells(alloc: Global) -> Result<List<ArrayDecl>, AllocError> {
+    let extents = List::from_slice(alloc, &[3])?;
+    let name = Text::new(alloc);
+    one(alloc, ArrayDecl { name, extents })
+}
+
+fn both(alloc: Global, first: Item, second: Item) -> Result<List<Item>, AllocError> {
+    let mut items = one(alloc, first)?;
+    items.push(second)?;
+    Ok(items)
+}
+
 /// An array of three cells, and a loop over i below `rows`, with `A[i] = 1` and a loop over j from `first` to i below it,
 /// with `A[j + shift] = A[i]`.
 fn triangle(alloc: Global, rows: i64, first: i64, shift: i64) -> Result<Nest, Fail> {
-    let write = access(alloc, &[1], 0)?;
-    let right = Expr::Number(1);
-    let outer = Item::Assign {
-        label: 0,
-        body: Body { write, right },
-    };
-    let write = access(alloc, &[0, 1], shift)?;
-    let right = Expr::Read(access(alloc, &[1, 0], 0)?);
-    let inner = Item::Assign {
-        label: 1,
-        body: Body { write, right },
-    };
-    let below = loop_of(
-        alloc,
-        form(alloc, &[0], first)?,
-        form(alloc, &[1], 0)?,
-        one(alloc, inner)?,
-    )?;
-    let mut items = one(alloc, outer)?;
-    items.push(below)?;
-    let low = form(alloc, &[], 0)?;
-    let high = form(alloc, &[], rows.saturating_sub(1))?;
-    let top = loop_of(alloc, low, high, items)?;
-    let array = ArrayDecl {
-        name: Text::new(alloc),
-        extents: List::from_slice(alloc, &[3])?,
-    };
-    let arrays = one(alloc, array)?;
-    let nest = Nest::new(arrays, one(alloc, top)?).ok_or("a nest")?;
+    let second = below(alloc, first, inner(alloc, shift)?)?;
+    let items = both(alloc, outer(alloc)?, second)?;
+    let items = one(alloc, top(alloc, rows, items)?)?;
+    let nest = Nest::new(three_cells(alloc)?, items).ok_or("a nest")?;
     Ok(nest)
 }
 
