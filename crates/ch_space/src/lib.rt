@@ -29,3 +29,6 @@ pub use nest_space::{of_nest, sound_space};
 pub use piece::Piece;
 pub use reading::{count, group, label, piece_count, pieces, places};
 pub use space::Space;
+
+#[cfg(test)]
+mod reading_tests;
