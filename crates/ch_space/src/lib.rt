@@ -16,6 +16,8 @@ mod nest_space;
 mod nest_space_tests;
 mod piece;
 mod reading;
+#[cfg(test)]
+mod reading_tests;
 mod rows;
 mod space;
 mod turns;
@@ -29,6 +31,3 @@ pub use nest_space::{of_nest, sound_space};
 pub use piece::Piece;
 pub use reading::{count, group, label, piece_count, pieces, places};
 pub use space::Space;
-
-#[cfg(test)]
-mod reading_tests;

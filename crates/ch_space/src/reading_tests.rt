@@ -75,7 +75,9 @@ fn triangle(alloc: Global) -> Result<Nest, Fail> {
 #[test]
 fn pieces_are_read_and_closed_up(rt: HostRuntime) -> Result<(), Fail> {
     let alloc = rt.alloc();
-    let mut space = of_nest(alloc, &triangle(alloc)?).ok().ok_or("a sound nest")?;
+    let mut space = of_nest(alloc, &triangle(alloc)?)
+        .ok()
+        .ok_or("a sound nest")?;
     assert_eq!(rt; count(&space), 9);
     assert_eq!(rt; pieces(&space), 2);
     assert_eq!(rt; piece_count(&space, 0), 3);
