@@ -15,6 +15,7 @@ pub mod TurnSteps
 pub mod FindSteps
 pub mod Subscripted
 pub mod Judgings
+pub mod AccessCounts
 pub mod Short
 pub mod Turning
 pub mod EndsOf

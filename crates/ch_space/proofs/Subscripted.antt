@@ -1,10 +1,21 @@
 -- The accesses of statements, their numbers and cells, one step on.
-use Rattle.std.proofs.Common.{◌≡◌, refl, sym, ap, ap₂, ◌∙◌, subst, ℕ, zero, suc, ◌+◌, ◌<◌, ℤ, Bool, true, false, ◌&&◌, Option, Some, None, List, [], ◌∷◌, ◌++◌, length, map, drop, take, get_or, append_assoc, append-nil, add-one, arith}
+use Rattle.std.proofs.Common.{◌≡◌, refl, sym, ap, ap₂, ◌∙◌, subst, ℕ, zero, suc, ◌+◌, ◌*◌, ◌^◌, ◌<◌, ◌≤◌, ℤ, ◌+ℤ◌, ◌*ℤ◌, ◌≤ℤ◌, unsigned_abs, nat_eq, Bool, true, false, ◌&&◌, Option, Some, None, List, [], ◌∷◌, ◌++◌, length, map, drop, take, get_or, append_assoc, append-nil, add-one, arith}
 use Rattle.std.specs.Bool.{IsTrue}
-use Rattle.std.specs.List.{list_all}
-use Rattle.std.proofs.lemmas.Bool.{and_parts}
+use Rattle.std.specs.List.{All, list_all}
+use Rattle.std.proofs.Math.Nat.{mul-le-mul_left, mul-le-mul_right}
+use Rattle.std.proofs.lemmas.Bool.{and_parts, eqb-true, leb-true}
+use Rattle.std.proofs.lemmas.Int.{ints, unsigned_abs-mul}
+use Rattle.std.proofs.lemmas.List.Elements.{All-head, All-tail, All-nil, All-cons}
+use Rattle.std.proofs.lemmas.List.{length-append}
 use Rattle.std.proofs.lemmas.List.{drop_more, map-append, take_more}
+use Rattle.ch_affine.specs.Affine.{dot, IsAtMost}
 use Rattle.ch_affine.specs.Form.{Form}
+use Rattle.ch_affine.specs.Rows.{lies_in}
+use Rattle.ch_affine.specs.declared.system.Range.{Range}
+use Rattle.ch_nest.proofs.Corners.{LiesFirst, lies_first}
+use Rattle.ch_nest.proofs.Places.{plain_sub}
+use Rattle.ch_nest.specs.At.{IsAt}
+use Rattle.ch_nest.specs.Limits.{deepest, most_affine}
 use Rattle.ch_nest.specs.declared.nest.Access.{Access}
 use Rattle.ch_nest.specs.declared.nest.ArrayDecl.{ArrayDecl}
 use Rattle.ch_nest.specs.declared.nest.Body.{Body}
@@ -13,20 +24,21 @@ use Rattle.ch_nest.specs.declared.nest.Item.TheVariants.{Loop, Assign, rolls-Loo
 use Rattle.ch_nest.specs.declared.nest.Item.TheFolds.{fold-roll-Item}
 use Rattle.ch_nest.specs.declared.nest.Sub.{Sub}
 use Rattle.ch_nest.specs.Run.{sub_value}
-use Rattle.ch_nest.specs.Shape.{access_fits, body_fits, has_dimensions, sub_fits}
+use Rattle.ch_nest.specs.Shape.{access_fits, body_fits, coefs_fit, constant_fits, form_fits, has_dimensions, is_at_most, sub_fits, IsSmall}
 use Rattle.ch_nest.specs.Sound.{access_inside}
 use Rattle.ch_space.specs.declared.accesses.Leaving.{Leaving}
 use Rattle.ch_space.specs.Judged.{access_count, bodies, bodies_of, bodies_step, first_leaving, text_accesses}
+use Rattle.ch_space.specs.Judging.{IsNear}
 use Rattle.ch_space.proofs.Bodies.{Fits, body_accesses}
 use Rattle.ch_timed.specs.Conflict.{cell_of, reads}
 use Rattle.ch_timed.specs.Members.{Each}
 
 -- the numbers of accesses
 
-loop_bodies : (lows highs : List Form) (items : List Item) → bodies_of (Loop lows highs items) ≡ bodies items
+pub loop_bodies : (lows highs : List Form) (items : List Item) → bodies_of (Loop lows highs items) ≡ bodies items
 loop_bodies lows highs items = ap bodies_of (sym (rolls-Loop lows highs items)) ∙ fold-roll-Item (List Body) bodies_step _
 
-assign_bodies : (label : ℕ) (body : Body) → bodies_of (Assign label body) ≡ body ∷ []
+pub assign_bodies : (label : ℕ) (body : Body) → bodies_of (Assign label body) ≡ body ∷ []
 assign_bodies label body = ap bodies_of (sym (rolls-Assign label body)) ∙ fold-roll-Item (List Body) bodies_step _
 
 pub counts_loop : (item : Item) (lows highs : List Form) (items : List Item) (counts next : List ℕ) → item ≡ Loop lows highs items
@@ -60,10 +72,59 @@ list_all_at p [] k d l h = absurd (omega arith)
 list_all_at p (x ∷ xs) zero d l h = (and_parts (p x) (list_all p xs) h).0
 list_all_at p (x ∷ xs) (suc k) d l h = list_all_at p xs k d (omega arith) ((and_parts (p x) (list_all p xs) h).1)
 
-pub sub_at : (arrays : List ArrayDecl) (n : ℕ) (a : Access) (k : ℕ) (d : Sub) → k < length a.subs → IsTrue (access_fits arrays n a) → IsTrue (sub_fits n (get_or a.subs k d))
-sub_at arrays n a k d l h = list_all_at (sub_fits n) a.subs k d l ((and_parts (has_dimensions arrays a.array (length a.subs)) (list_all (sub_fits n) a.subs) h).1)
+pub sub_at : (n : ℕ) (subs : List Sub) (k : ℕ) (d : Sub) → k < length subs → IsTrue (list_all (sub_fits n) subs) → IsTrue (sub_fits n (get_or subs k d))
+sub_at n subs k d l h = list_all_at (sub_fits n) subs k d l h
+
+-- a subscript at a point of a nest's loops has room in 64 bits
+
+dot_small : (cs xs : List ℤ) → IsTrue (list_all (is_at_most most_affine) cs) → All (IsAtMost (2 ^ 30)) xs → unsigned_abs (dot cs xs) ≤ length cs * 2 ^ 60
+dot_small [] xs c s = omega arith
+dot_small (c ∷ cs) [] h s = omega arith
+dot_small (c ∷ cs) (x ∷ xs) h s =
+    let a : unsigned_abs c ≤ 2 ^ 30 = leb-true _ _ ((and_parts _ _ h).0) in
+    let b : unsigned_abs x ≤ 2 ^ 30 = All-head (IsAtMost (2 ^ 30)) x xs s in
+    let p : unsigned_abs (c *ℤ x) ≤ 2 ^ 60 = omega (arith, unsigned_abs-mul c x, mul-le-mul_right (unsigned_abs x) a, mul-le-mul_left (2 ^ 30) b) in
+    omega (arith, ints, p, dot_small cs xs ((and_parts _ _ h).1) (All-tail (IsAtMost (2 ^ 30)) x xs s))
+
+pub sub_small : (point : List ℤ) (s : Sub) → IsNear point → IsTrue (sub_fits (length point) s) → unsigned_abs (sub_value point s) < 2 ^ 63
+sub_small point s near h =
+    let form = (and_parts (form_fits (length point) s.form) (nat_eq s.modulus 0) h).0 in
+    let parts = and_parts (coefs_fit (length point) s.form) (constant_fits s.form) form in
+    let coefs = and_parts (nat_eq (length s.form.coefs) (length point)) (list_all (is_at_most most_affine) s.form.coefs) parts.0 in
+    let size : length s.form.coefs ≡ length point = eqb-true (length s.form.coefs) (length point) coefs.0 in
+    let few : length point ≤ 6 = near.few in
+    let below : unsigned_abs (dot s.form.coefs point) ≤ length s.form.coefs * 2 ^ 60 = dot_small s.form.coefs point coefs.1 near.small in
+    let constant : unsigned_abs s.form.constant ≤ 2 ^ 30 = leb-true (unsigned_abs s.form.constant) most_affine parts.1 in
+    let all : unsigned_abs (s.form.constant +ℤ dot s.form.coefs point) < 2 ^ 63 = omega (arith, ints, constant, below, size, few) in
+    rw (sym (plain_sub point s h)) all
+
+between : (r : Range) (x : ℤ) → IsSmall r → r.low ≤ℤ x → x ≤ℤ r.high → IsAtMost (2 ^ 30) x
+between r x s l h =
+    let low : unsigned_abs r.low ≤ 2 ^ 30 = leb-true _ _ ((and_parts _ _ s).0) in
+    let high : unsigned_abs r.high ≤ 2 ^ 30 = leb-true _ _ ((and_parts _ _ s).1) in
+    omega (arith, ints)
+
+lies_near : (rs : List Range) (xs : List ℤ) → All IsSmall rs → IsTrue (lies_in rs xs) → All (IsAtMost (2 ^ 30)) xs
+lies_near [] [] s h = All-nil (IsAtMost (2 ^ 30))
+lies_near [] (x ∷ xs) s h = absurd cc
+lies_near (r ∷ rs) [] s h = absurd cc
+lies_near (r ∷ rs) (x ∷ xs) s h =
+    let f : LiesFirst r rs x xs = lies_first r rs x xs h in
+    All-cons (IsAtMost (2 ^ 30)) x xs (between r x (All-head IsSmall r rs s) f.low f.high) (lies_near rs xs (All-tail IsSmall r rs s) f.others)
+
+pub near_at : (arrays : List ArrayDecl) (item : Item) (point : List ℤ) → length point ≤ deepest → IsAt arrays item point → IsNear point
+near_at arrays item point few a = record { few = few; small = lies_near a.boxes point a.small a.inside }
+
+pub inner_shallow : (point inner : List ℤ) (x : ℤ) → length point < deepest → inner ≡ point ++ x ∷ [] → length inner ≤ deepest
+inner_shallow point inner x l e = rw e (simp length-append (omega arith))
 
 -- the first access that leaves its array
+
+pub subs_at : (arrays : List ArrayDecl) (n : ℕ) (accesses : List Access) (k : ℕ) (d : Access) → k < length accesses → IsTrue (list_all (access_fits arrays n) accesses)
+    → IsTrue (list_all (sub_fits n) (get_or accesses k d).subs)
+subs_at arrays n accesses k d l h =
+    let a = get_or accesses k d in
+    (and_parts (has_dimensions arrays a.array (length a.subs)) (list_all (sub_fits n) a.subs) (list_all_at (access_fits arrays n) accesses k d l h)).1
 
 pub access_at : (arrays : List ArrayDecl) (n : ℕ) (listed : List Access) (k : ℕ) (d : Access) → k < length listed → IsTrue (list_all (access_fits arrays n) listed)
     → IsTrue (access_fits arrays n (get_or listed k d))

@@ -1,8 +1,11 @@
 -- The walk that judges a nest: the refusal of the first instance below some items at a point, and what is left of the turns.
-use Rattle.std.specs.Prelude.{◌≡◌, ◌<◌, ℕ, zero, suc, ◌+◌, ℤ, pos, ◌+ℤ◌, Option, Some, None, Result, Ok, Err, List, [], ◌∷◌, ◌++◌, map}
+use Rattle.std.specs.Prelude.{◌≡◌, ◌<◌, ◌≤◌, ◌^◌, ℕ, zero, suc, ◌+◌, ℤ, pos, ◌+ℤ◌, Option, Some, None, Result, Ok, Err, List, [], ◌∷◌, ◌++◌, length, map}
+use Rattle.std.specs.List.{All}
+use Rattle.ch_affine.specs.Affine.{IsAtMost}
 use Rattle.ch_nest.specs.declared.nest.Item.{Item}
 use Rattle.ch_nest.specs.declared.nest.Item.TheOpen.{Item-F}
 use Rattle.ch_nest.specs.declared.nest.Item.TheFolds.{fold-Item}
+use Rattle.ch_nest.specs.Limits.{deepest}
 use Rattle.ch_nest.specs.LoopNest.{LoopNest}
 use Rattle.ch_nest.specs.Run.{count, low_of, high_of}
 use Rattle.ch_space.specs.declared.error.SpaceError.{SpaceError}
@@ -10,6 +13,11 @@ use Rattle.ch_space.specs.declared.error.SpaceError.TheVariants.{TooMany, OutOfR
 use Rattle.ch_space.specs.declared.judge.Walk.{Walk}
 use Rattle.ch_space.specs.Judged.{leaving, or_else}
 use Rattle.ch_timed.specs.declared.element.Label.TheVariants.{Stmt}
+
+-- a point of the loops of a nest
+pub record IsNear (point : List ℤ) : Type 0 where
+  pub few : length point ≤ deepest
+  pub small : All (IsAtMost (2 ^ 30)) point
 
 -- the refusal that is found from a point on
 abbrev pub Search : Type 0

@@ -1,15 +1,16 @@
-ghost use Rattle.std.specs.Prelude.{◌≡◌, ◌^◌, ℕ, ◌+◌, suc, length, map, ◌++◌, ◌∷◌, [], take, IsTrue, IfOk, OnOk, Option, Some, None};
+ghost use Rattle.std.specs.Prelude.{◌≡◌, ◌^◌, ◌<◌, ◌+◌, length, map, ◌++◌, ◌∷◌, [], take, IsTrue, IfOk, OnOk, Option, Some, None};
 ghost use Rattle.std.specs.List.{All, list_all, sum};
 ghost use Rattle.ch_affine.specs.Affine.{IsAtMost};
-ghost use Rattle.ch_nest.specs.Run.{subscripts};
-ghost use Rattle.ch_nest.specs.Shape.{access_fits, body_fits};
+ghost use Rattle.ch_nest.specs.Run.{sub_value};
+ghost use Rattle.ch_nest.specs.Shape.{access_fits, body_fits, sub_fits};
 ghost use Rattle.ch_space.specs.Judged.{access_count, accesses_before, bodies, bodies_of, first_leaving, text_accesses};
+ghost use Rattle.ch_space.specs.Judging.{IsNear};
 ghost use Rattle.ch_timed.specs.Conflict.{cell_of, reads};
 ghost use Rattle.ch_timed.specs.declared.element.Label.TheVariants.{Stmt};
 
 use crate::copies::copied_access;
 use ch_affine::List;
-use ch_nest::{Access, ArrayDecl, Body, Expr, Item, access_inside, sub_value};
+use ch_nest::{Access, ArrayDecl, Body, Expr, Item, Sub, access_inside, sub_value};
 use ch_timed::Cell;
 use std::alloc::{AllocError, Global};
 
@@ -46,21 +47,16 @@ fn text_accesses(alloc: Global, body: &Body) -> Result<List<Access>, AllocError>
 }
 
 /// How many accesses a statement has.
-fn access_count(alloc: Global, body: &Body) -> Result<u32, AllocError>
+fn access_count(alloc: Global, body: &Body) -> Result<usize, AllocError>
     ensures { IfOk result (λ count. count ≡ access_count body.now) }
 {
-    let accesses = text_accesses(alloc, body)?;
-    match u32::try_from(accesses.len()) {
-        Ok(count) => Ok(count),
-        // So many accesses found no room.
-        Err(_) => Err(AllocError),
-    }
+    Ok(text_accesses(alloc, body)?.len())
 }
 
 /// Adds the number of accesses of each statement of the items.
 #[cycle(counts)]
 #[tactic(auto, using(crate::proofs::Subscripted::counts_go_on, crate::proofs::Subscripted::counts_loop, crate::proofs::Subscripted::counts_assign))]
-fn push_counts(alloc: Global, items: &[Item], counts: &mut List<u32>) -> Result<(), AllocError>
+fn push_counts(alloc: Global, items: &[Item], counts: &mut List<usize>) -> Result<(), AllocError>
     ensures { OnOk result (counts.new ≡ counts.old ++ map access_count (bodies items.now)) }
 {
     for item in items {
@@ -71,7 +67,7 @@ fn push_counts(alloc: Global, items: &[Item], counts: &mut List<u32>) -> Result<
 
 #[cycle(counts)]
 #[tactic(auto, using(crate::proofs::Subscripted::counts_loop, crate::proofs::Subscripted::counts_assign))]
-fn push_item_counts(alloc: Global, item: &Item, counts: &mut List<u32>) -> Result<(), AllocError>
+fn push_item_counts(alloc: Global, item: &Item, counts: &mut List<usize>) -> Result<(), AllocError>
     ensures { OnOk result (counts.new ≡ counts.old ++ map access_count (bodies_of item.now)) }
 {
     match item {
@@ -80,20 +76,22 @@ fn push_item_counts(alloc: Global, item: &Item, counts: &mut List<u32>) -> Resul
     }
 }
 
-fn sum_of(counts: &[u32]) -> Option<u32>
-    ensures { (total : ℕ) → result ≡ Some total → total ≡ sum counts.now }
+fn sum_of(counts: &[usize]) -> usize
+    requires { sum counts.now < 2 ^ 32 }
+    ensures { result ≡ sum counts.now }
 {
-    let mut total = 0_u32;
+    let mut total = 0;
     for count in counts {
-        total = total.checked_add(*count)?;
+        total += *count;
     }
-    Some(total)
+    total
 }
 
-/// The sum of the first of these counts, or `None` where it has no room.
-#[tactic(auto, using(std::proofs::lemmas::List::take_all))]
-fn sum_before(counts: &[u32], end: usize) -> Option<u32>
-    ensures { (total : ℕ) → result ≡ Some total → total ≡ sum (take end counts.now) }
+/// The sum of the first of these counts.
+#[tactic(auto, using(std::proofs::lemmas::List::take_all, crate::proofs::AccessCounts::sum_take))]
+fn sum_before(counts: &[usize], end: usize) -> usize
+    requires { sum counts.now < 2 ^ 32 }
+    ensures { result ≡ sum (take end counts.now) }
 {
     if end < counts.len() {
         return sum_of(&counts[..end]);
@@ -102,35 +100,37 @@ fn sum_before(counts: &[u32], end: usize) -> Option<u32>
 }
 
 /// How many accesses the statements before one have.
+#[tactic(auto, using(crate::proofs::AccessCounts::sum_take))]
 pub(crate) fn accesses_before(alloc: Global, items: &[Item], label: u32) -> Result<u32, AllocError>
+    requires few { sum (map access_count (bodies items.now)) < 2 ^ 32 }
     ensures { IfOk result (λ before. before ≡ accesses_before items.now (Stmt label)) }
 {
     let mut counts = List::new(alloc);
     push_counts(alloc, items, &mut counts)?;
-    match sum_before(counts.as_slice(), label as usize) {
-        Some(before) => Ok(before),
-        None => Err(AllocError),
-    }
+    Ok(sum_before(counts.as_slice(), label as usize) as u32)
+}
+
+/// A subscript at a point.
+fn subscript_at(sub: &Sub, point: &[i64]) -> i64
+    requires fits { IsTrue (sub_fits (length point.now) sub.now) }
+    requires small { All (IsAtMost (2 ^ 54)) point.now }
+    requires near { IsNear point.now }
+    ensures { result ≡ sub_value point.now sub.now }
+{
+    sub_value(sub, point) as i64
 }
 
 /// The cell of an access at a point.
 #[tactic(auto, using(crate::proofs::Subscripted::values_go_on, crate::proofs::Subscripted::sub_at))]
-fn cell_at(
-    alloc: Global,
-    access: &Access,
-    arrays: &[ArrayDecl],
-    point: &[i64],
-) -> Result<Cell, AllocError>
-    requires fits { IsTrue (access_fits arrays.now (length point.now) access.now) }
+fn cell_at(alloc: Global, access: &Access, point: &[i64]) -> Result<Cell, AllocError>
+    requires fit { IsTrue (list_all (sub_fits (length point.now)) access.now.subs) }
     requires small { All (IsAtMost (2 ^ 54)) point.now }
+    requires near { IsNear point.now }
     ensures { IfOk result (λ cell. cell ≡ cell_of point.now access.now) }
 {
     let mut subs = List::new(alloc);
     for sub in access.subs.as_slice() {
-        let Ok(value) = i64::try_from(sub_value(sub, point)) else {
-            return Err(AllocError);
-        };
-        subs.push(value)?;
+        subs.push(subscript_at(sub, point))?;
     }
     Ok(Cell {
         array: access.array,
@@ -149,6 +149,8 @@ pub(crate) fn first_leaving(
 ) -> Result<Option<Leaving>, AllocError>
     requires fits { IsTrue (body_fits arrays.now (length point.now) body.now) }
     requires small { All (IsAtMost (2 ^ 54)) point.now }
+    requires near { IsNear point.now }
+    requires few { before + access_count body.now < 2 ^ 32 }
     ensures { IfOk result (λ leaving. leaving ≡ first_leaving arrays.now point.now before (text_accesses body.now)) }
 {
     let accesses = text_accesses(alloc, body)?;
@@ -156,7 +158,7 @@ pub(crate) fn first_leaving(
 }
 
 /// The first of these accesses that leaves its array at a point, where the first one has number `number`.
-#[tactic(auto, using(crate::proofs::Subscripted::access_at, crate::proofs::Subscripted::leaving_goes_on, crate::proofs::Subscripted::leaving_here))]
+#[tactic(auto, using(crate::proofs::Subscripted::access_at, crate::proofs::Subscripted::subs_at, crate::proofs::Subscripted::leaving_goes_on, crate::proofs::Subscripted::leaving_here))]
 fn leaving_from(
     alloc: Global,
     arrays: &[ArrayDecl],
@@ -166,18 +168,17 @@ fn leaving_from(
 ) -> Result<Option<Leaving>, AllocError>
     requires fit { IsTrue (list_all (access_fits arrays.now (length point.now)) accesses.now) }
     requires small { All (IsAtMost (2 ^ 54)) point.now }
+    requires near { IsNear point.now }
+    requires few { number + length accesses.now < 2 ^ 32 }
     ensures { IfOk result (λ leaving. leaving ≡ first_leaving arrays.now point.now number accesses.now) }
 {
     let mut here = number;
     for access in accesses {
         if !access_inside(arrays, access, point) {
-            let cell = cell_at(alloc, access, arrays, point)?;
+            let cell = cell_at(alloc, access, point)?;
             return Ok(Some(Leaving { access: here, cell }));
         }
-        let Some(next) = here.checked_add(1) else {
-            return Err(AllocError);
-        };
-        here = next;
+        here += 1;
     }
     Ok(None)
 }

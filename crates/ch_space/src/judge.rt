@@ -1,13 +1,14 @@
-ghost use Rattle.std.specs.Prelude.{◌≡◌, ◌^◌, IsTrue, IfOk, OnOk, Option, None, [], ◌∷◌, length, true};
+ghost use Rattle.std.specs.Prelude.{◌≡◌, ◌^◌, ◌≤◌, IsTrue, IfOk, OnOk, Option, None, [], ◌∷◌, length, true};
 ghost use Rattle.std.specs.List.{All};
 ghost use Rattle.ch_affine.specs.Affine.{IsAtMost};
 ghost use Rattle.ch_nest.specs.At.{AreAt, IsAt};
+ghost use Rattle.ch_nest.specs.Limits.{deepest};
 ghost use Rattle.ch_nest.specs.LoopNest.{LoopNest};
 ghost use Rattle.ch_nest.specs.Shape.{body_fits};
 ghost use Rattle.ch_nest.specs.Sound.{is_sound, item_work, items_work};
 ghost use Rattle.ch_space.specs.Judged.{judgement, leaving};
 ghost use Rattle.ch_space.specs.Judges.{Judges};
-ghost use Rattle.ch_space.specs.Judging.{item_refusal, items_refusal, Walks};
+ghost use Rattle.ch_space.specs.Judging.{item_refusal, items_refusal, IsNear, Walks};
 ghost use Rattle.ch_timed.specs.declared.element.Label.TheVariants.{Stmt};
 
 use crate::accesses::{accesses_before, first_leaving};
@@ -41,8 +42,10 @@ fn instance_refusal(
 ) -> Result<Option<SpaceError>, AllocError>
     requires fits { IsTrue (body_fits nest.now.arrays (length point.now) body.now) }
     requires small { All (IsAtMost (2 ^ 54)) point.now }
+    requires near { IsNear point.now }
     ensures { IfOk result (λ refusal. refusal ≡ leaving nest.now (record { identity = record { label = Stmt label; iters = point.now }; vector = []; body = body.now })) }
 {
+    nest.known();
     let arrays = nest.arrays.as_slice();
     if body_inside(arrays, body, point) {
         return Ok(None);
@@ -76,6 +79,7 @@ fn walk_instance(
 ) -> Result<Walk, SpaceError>
     requires fits { IsTrue (body_fits nest.now.arrays (length point.now) body.now) }
     requires small { All (IsAtMost (2 ^ 54)) point.now }
+    requires near { IsNear point.now }
     ensures { Walks result 1 (leaving nest.now (record { identity = record { label = Stmt label; iters = point.now }; vector = []; body = body.now })) walk }
 {
     let Walk { left, found } = walk;
@@ -122,6 +126,7 @@ fn walk_items(
     walk: Walk,
 ) -> Result<Walk, SpaceError>
     requires at { AreAt nest.now.arrays items.now point.now }
+    requires shallow { length point.now ≤ deepest }
     ensures { Walks result (items_work items.now point.now) (items_refusal nest.now items.now point.now) walk }
 {
     let mut walk = walk;
@@ -140,6 +145,7 @@ fn walk_item(
     walk: Walk,
 ) -> Result<Walk, SpaceError>
     requires at { IsAt nest.now.arrays item.now point.now }
+    requires shallow { length point.now ≤ deepest }
     ensures { Walks result (item_work item.now point.now) (item_refusal nest.now item.now point.now) walk }
 {
     match item {

@@ -4,6 +4,7 @@ use Rattle.std.proofs.lemmas.Int.{to_z-of_z}
 use Rattle.ch_nest.specs.declared.nest.Item.TheViews.{the_lemmas}
 use Rattle.ch_nest.proofs.Fits.{head_depth, head_lows, head_highs}
 use Rattle.ch_nest.proofs.Turns.{body_at, ends_small, item_at, loop_at, nth_in_order, point_small, turn_at}
+use Rattle.ch_space.proofs.Subscripted.{inner_shallow, near_at}
 use Rattle.ch_space.proofs.Judgings.{err_walks, inner_ends, loop_walked, rest_goes_on, turn_ends, turn_goes_on}
 use Rattle.ch_space.proofs.judge.+judging.Goals as goal
 
@@ -12,6 +13,9 @@ walk_item-walk_instance-requires-clause-fits t c = body_at c.args.nest.now.array
 
 pub walk_item-walk_instance-requires-clause-small : goal.walk_item-walk_instance-requires-clause-small
 walk_item-walk_instance-requires-clause-small t c = point_small c.args.nest.now.arrays c.args.item.now c.args.point.now c.requires.at
+
+pub walk_item-walk_instance-requires-clause-near : goal.walk_item-walk_instance-requires-clause-near
+walk_item-walk_instance-requires-clause-near t c = near_at c.args.nest.now.arrays c.args.item.now c.args.point.now c.requires.shallow c.requires.at
 
 pub walk_item-greatest_low-low-requires-clause-fit : goal.walk_item-greatest_low-low-requires-clause-fit
 walk_item-greatest_low-low-requires-clause-fit t c =
@@ -78,13 +82,19 @@ walk_item-walk_items-requires t c =
     let value = rw low at (simp to_z-of_z at c.nth_value.ensures) in
     let inner = rw value at (simp to_z-of_z at c.extended-inner.ensures) in (
       rw c.as_slice-in-loop-k.ensures (search (rules, the_lemmas)),
-      rw c.as_slice-in-loop-k.ensures (turn_at c.args.nest.now.arrays c.in-Loop.lows c.in-Loop.highs c.in-Loop.items c.args.point.now _ c.loop-k.k a below inner),
+      (
+        rw c.as_slice-in-loop-k.ensures (turn_at c.args.nest.now.arrays c.in-Loop.lows c.in-Loop.highs c.in-Loop.items c.args.point.now _ c.loop-k.k a below inner),
+        inner_shallow c.args.point.now _ _ (head_depth (length c.args.point.now) c.in-Loop.lows c.in-Loop.highs a.head) inner,
+      ),
     )
 
 pub walk_items-walk_item-requires : goal.walk_items-walk_item-requires
 walk_items-walk_item-requires t c = (
   search (rules, the_lemmas),
-  rw c.item-item.is (item_at c.args.nest.now.arrays c.args.items.now c.args.point.now c.loop-item.item-index c.item-item.result c.loop-item-test.true c.requires.at),
+  (
+    rw c.item-item.is (item_at c.args.nest.now.arrays c.args.items.now c.args.point.now c.loop-item.item-index c.item-item.result c.loop-item-test.true c.requires.at),
+    c.requires.shallow,
+  ),
 )
 
 pub walk_items-loop-item-preserved : goal.walk_items-loop-item-preserved
