@@ -1,9 +1,5 @@
-pub mod Apart
-pub mod Ascii
-pub mod Fine
-pub mod Found
 pub mod Lines
-pub mod Nested
+pub mod OneWord
 pub mod Outs
-pub mod Repeats
-pub mod Words
+pub mod Pieces
+pub mod Shown

@@ -8,7 +8,7 @@ use Rattle.ch_nest.specs.declared.nest.ArrayDecl.{ArrayDecl}
 use Rattle.ch_nest.specs.Arrays.{cells_in, total}
 use Rattle.ch_nest.specs.Shape.{arrays_fit, is_array}
 use Rattle.ch_nest.proofs.Places.{extents_some}
-use Rattle.ch_run.specs.Text.{array_line, array_lines}
+use Rattle.ch_run.specs.EvalText.{array_line, array_lines}
 
 pub lines_more : (ds : List ArrayDecl) (k : ℕ) (d : ArrayDecl) (rest : List ℤ) (out next whole : List ℕ) (n : ℕ) → k < length ds → n ≡ cells_in (get_or ds k d).extents
     → next ≡ out ++ array_line (get_or ds k d) (take n rest) → out ++ array_lines (drop k ds) rest ≡ whole → next ++ array_lines (drop (k + 1) ds) (drop n rest) ≡ whole

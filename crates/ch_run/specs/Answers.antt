@@ -1,5 +1,5 @@
 -- What the program may answer to an input: a status and a text.
-use Rattle.std.specs.Prelude.{◌≡◌, ℕ, List, ◌++◌, Option, Result, Ok, Err}
+use Rattle.std.specs.Prelude.{◌≡◌, ℕ, List, Option, Result, Ok, Err}
 use Rattle.std.specs.Io.KnownBytes.{Appends}
 use Rattle.ch_deck.specs.Decks.{deck_of}
 use Rattle.ch_deck.specs.declared.program.Program.{Program}

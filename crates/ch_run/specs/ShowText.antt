@@ -3,7 +3,7 @@ use Rattle.std.specs.Prelude.{◌≡◌, ℕ, ℤ, List, [], ◌∷◌, ◌++◌
 use Rattle.std.specs.List.{flat_map, range_with_len}
 use Rattle.ch_code.specs.declared.code.Unit as unit
 use Rattle.ch_code.specs.Trace.{unit_trace}
-use Rattle.ch_code.specs.UnitText.{unit_text}
+use Rattle.ch_code.specs.CodeText.{unit_text}
 use Rattle.ch_deck.specs.declared.program.Program.{Program}
 use Rattle.ch_print.specs.Instances.{identity_text, label_text}
 use Rattle.ch_print.specs.Numbers.{number_text}
@@ -16,10 +16,12 @@ use Rattle.ch_timed.specs.Start.{start}
 use Rattle.ch_timed.specs.Timed.{pieces}
 use Rattle.ch_timed.specs.Vectors.{places}
 
+unfoldable pub counts_text : ℕ → ℕ → List ℕ
+counts_text pieces instances = codes " legal pieces " ++ number_text pieces ++ codes " instances " ++ number_text instances ++ codes "\n"
+
 -- a program's name, and how many pieces and instances it has
-unfoldable pub program_line : List ℕ → List Element → List ℕ
-program_line name list =
-    codes "program " ++ name ++ codes " legal pieces " ++ number_text (length (pieces list)) ++ codes " instances " ++ number_text (length list) ++ codes "\n"
+unfoldable pub program_line : List ℕ → ℕ → ℕ → List ℕ
+program_line name pieces instances = codes "program " ++ name ++ counts_text pieces instances
 
 -- a piece's number, label, places and count, and its first and last instance
 unfoldable pub piece_text : ℕ → Label → List ℤ → ℕ → Identity → Identity → List ℕ
@@ -46,7 +48,7 @@ pub record Shows (p : Program) (text : List ℕ) : Type 0 where
   pub trace : unit_trace code ≡ start p.nest
   pub arrays : code.arrays ≡ p.nest.arrays
   pub temps : code.temps ≡ []
-  pub written : text ≡ program_line p.name (start p.nest) ++ piece_lines (start p.nest) ++ unit_text code
+  pub written : text ≡ program_line p.name (length (pieces (start p.nest))) (length (start p.nest)) ++ piece_lines (start p.nest) ++ unit_text code
 
 -- the text shows one program after another, and ends
 abbrev pub ShowsAll : List Program → List ℕ → Type 0

@@ -1,9 +1,9 @@
-ghost use Rattle.std.specs.Prelude.{◌≡◌, ◌<◌, ◌++◌, length, IfOk, IsTrue, OnOk};
+ghost use Rattle.std.specs.Prelude.{◌≡◌, ◌<◌, ◌++◌, pos, length, map, IfOk, IsTrue, OnOk};
 ghost use Rattle.std.specs.List.{All, flat_map, range_with_len};
 ghost use Rattle.ch_deck.specs.Programs.{IsProgram};
 ghost use Rattle.ch_nest.specs.Sound.{is_sound};
 ghost use Rattle.ch_run.specs.Added.{Adds};
-ghost use Rattle.ch_run.specs.ShowText.{piece_line, piece_lines, piece_text, program_line, Shows, ShowsAll};
+ghost use Rattle.ch_run.specs.ShowText.{counts_text, piece_line, piece_lines, piece_text, program_line, Shows, ShowsAll};
 ghost use Rattle.ch_space.specs.Members.{members};
 ghost use Rattle.ch_timed.specs.Timed.{pieces};
 
@@ -14,19 +14,60 @@ use ch_codegen::generate;
 use ch_deck::Program;
 use ch_print::{put_identity, put_label, put_number};
 use ch_space::{Space, count, ends, label, piece_count, pieces, places, sound_space};
+use ch_timed::{Identity, Label};
 use std::alloc::{AllocError, Global};
+
+#[tactic(auto, unfolding(crate::specs::ShowText::counts_text))]
+fn put_counts(out: &mut Text, pieces: u32, instances: u64) -> Result<(), AllocError>
+    ensures { OnOk result (out.new ≡ out.old ++ counts_text pieces instances) }
+{
+    out.append(b" legal pieces ")?;
+    put_number(out, u64::from(pieces))?;
+    out.append(b" instances ")?;
+    put_number(out, instances)?;
+    out.append(b"\n")
+}
 
 /// Adds a program's name, and how many pieces and instances it has.
 #[tactic(auto, unfolding(crate::specs::ShowText::program_line))]
-fn put_program_line(out: &mut Text, name: &Text, space: &Space) -> Result<(), AllocError>
-    ensures { OnOk result (out.new ≡ out.old ++ program_line name.now space.now.list) }
+fn put_program_line(
+    out: &mut Text,
+    name: &Text,
+    pieces: u32,
+    instances: u64,
+) -> Result<(), AllocError>
+    ensures { OnOk result (out.new ≡ out.old ++ program_line name.now pieces instances) }
 {
     out.append(b"program ")?;
     out.append(name.as_bytes())?;
-    out.append(b" legal pieces ")?;
-    put_number(out, u64::from(pieces(space)))?;
-    out.append(b" instances ")?;
-    put_number(out, count(space))?;
+    put_counts(out, pieces, instances)
+}
+
+/// Adds what is told of a piece, in a line.
+#[tactic(auto, unfolding(crate::specs::ShowText::piece_text))]
+fn put_piece_text(
+    out: &mut Text,
+    number: u32,
+    label: Label,
+    places: &[u32],
+    count: u64,
+    first: &Identity,
+    last: &Identity,
+) -> Result<(), AllocError>
+    ensures { OnOk result (out.new ≡ out.old ++ piece_text number label (map pos places.now) count first.now last.now) }
+{
+    out.append(b"piece ")?;
+    put_number(out, u64::from(number))?;
+    out.append(b" ")?;
+    put_label(out, label)?;
+    out.append(b" places")?;
+    put_places(out, places)?;
+    out.append(b" count ")?;
+    put_number(out, count)?;
+    out.append(b" first ")?;
+    put_identity(out, first)?;
+    out.append(b" last ")?;
+    put_identity(out, last)?;
     out.append(b"\n")
 }
 
@@ -36,19 +77,15 @@ fn put_piece(alloc: Global, out: &mut Text, space: &Space, number: u32) -> Resul
     ensures { OnOk result (out.new ≡ out.old ++ piece_line number (members space.now.list number)) }
 {
     let (first, last) = ends(alloc, space, number)?;
-    out.append(b"piece ")?;
-    put_number(out, u64::from(number))?;
-    out.append(b" ")?;
-    put_label(out, label(space, number))?;
-    out.append(b" places")?;
-    put_places(out, places(space, number))?;
-    out.append(b" count ")?;
-    put_number(out, piece_count(space, number))?;
-    out.append(b" first ")?;
-    put_identity(out, &first)?;
-    out.append(b" last ")?;
-    put_identity(out, &last)?;
-    out.append(b"\n")
+    put_piece_text(
+        out,
+        number,
+        label(space, number),
+        places(space, number),
+        piece_count(space, number),
+        &first,
+        &last,
+    )
 }
 
 /// Adds a line for each piece.
@@ -67,7 +104,7 @@ fn put_shown(alloc: Global, out: &mut Text, program: &Program) -> Result<(), All
     ensures { OnOk result (Adds (Shows program.now) out.old out.new) }
 {
     let space = sound_space(alloc, &program.nest)?;
-    put_program_line(out, &program.name, &space)?;
+    put_program_line(out, &program.name, pieces(&space), count(&space))?;
     put_pieces(alloc, out, &space)?;
     let unit = generate(alloc, &program.nest, &space)?;
     let code = code_text(alloc, &unit)?;
