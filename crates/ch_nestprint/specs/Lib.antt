@@ -1,0 +1,6 @@
+pub mod Ends
+pub mod Layouts
+pub mod Minus
+pub mod Names
+pub mod Printed
+pub mod Sides

@@ -1,0 +1,15 @@
+//! The text of a program: its symbols one after the other, and how they are laid out.
+#![tactic(auto)]
+
+mod access;
+mod bounds;
+mod declared;
+mod forms;
+mod layout;
+mod minus;
+mod named;
+mod program;
+mod right;
+mod symbol;
+
+pub use program::print_program;
