@@ -93,9 +93,17 @@ lows_symbols letters lows = ends_symbols letters words.Max false lows
 abbrev pub highs_symbols : ℕ → List Form → List Symbol
 highs_symbols letters highs = Mark (relation (is_strict highs)) ∷ ends_symbols letters words.Min (is_strict highs) highs
 
+-- the head of a loop
+
+abbrev pub beginning_symbols : ℕ → ℕ → List Form → List Symbol
+beginning_symbols letters level lows = Mark signs.LeftParen ∷ Name (iterator_name letters level) ∷ Mark signs.Equals ∷ lows_symbols letters lows
+
+abbrev pub limit_symbols : ℕ → ℕ → List Form → List Symbol
+limit_symbols letters level highs = Mark signs.Semicolon ∷ Name (iterator_name letters level) ∷ highs_symbols letters highs
+
+abbrev pub step_symbols : ℕ → ℕ → List Symbol
+step_symbols letters level = Mark signs.Semicolon ∷ Name (iterator_name letters level) ∷ Mark signs.Increment ∷ Mark signs.RightParen ∷ []
+
 -- what stands between `for` and the body
 abbrev pub head_symbols : ℕ → ℕ → List Form → List Form → List Symbol
-head_symbols letters level lows highs =
-    Mark signs.LeftParen ∷ Name (iterator_name letters level) ∷ Mark signs.Equals ∷ lows_symbols letters lows
-    ++ (Mark signs.Semicolon ∷ Name (iterator_name letters level) ∷ highs_symbols letters highs)
-    ++ (Mark signs.Semicolon ∷ Name (iterator_name letters level) ∷ Mark signs.Increment ∷ Mark signs.RightParen ∷ [])
+head_symbols letters level lows highs = beginning_symbols letters level lows ++ limit_symbols letters level highs ++ step_symbols letters level

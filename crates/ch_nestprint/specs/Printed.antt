@@ -84,11 +84,12 @@ arrays_symbols (d ∷ ds) (f ∷ fs) = array_symbols d f ++ arrays_symbols ds fs
 
 -- a program
 
+-- the lets, the arrays and the items
+abbrev pub parts_symbols : ℕ → List ArrayDecl → List Item → List Fill → List Symbol
+parts_symbols letters arrays items fills = lets_symbols letters [] (minus_in_items items) ++ arrays_symbols arrays fills ++ items_symbols arrays letters items 0
+
 abbrev pub body_symbols : LoopNest → List Fill → List Symbol
-body_symbols nest fills =
-    lets_symbols (longest nest.arrays) [] (minus_in_items nest.items)
-    ++ arrays_symbols nest.arrays fills
-    ++ items_symbols nest.arrays (longest nest.arrays) nest.items 0
+body_symbols nest fills = parts_symbols (longest nest.arrays) nest.arrays nest.items fills
 
 abbrev pub program_symbols : List ℕ → LoopNest → List Fill → List Symbol
 program_symbols name nest fills = (Key words.Program ∷ Name name ∷ Mark signs.LeftBrace ∷ body_symbols nest fills) ++ Mark signs.RightBrace ∷ []

@@ -1,6 +1,7 @@
 ghost use Rattle.std.specs.Prelude.{◌≡◌, ◌<◌, ◌≤◌, ◌^◌, ℤ, pos, ◌≤ℤ◌, ◌<ℤ◌, ◌+ℤ◌, [], ◌∷◌, ◌++◌, OnOk, unsigned_abs, int_lt};
-ghost use Rattle.std.specs.List.{flat_map};
-ghost use Rattle.ch_nestprint.specs.Ends.{comma_end, end_symbols, ends_symbols, head_symbols, highs_symbols, is_strict, listed, lows_symbols, raised_if, relation};
+ghost use Rattle.std.specs.List.{flat_map, list_all};
+ghost use Rattle.ch_nest.specs.Shape.{constant_fits};
+ghost use Rattle.ch_nestprint.specs.Ends.{beginning_symbols, comma_end, end_symbols, ends_symbols, head_symbols, highs_symbols, is_strict, limit_symbols, listed, lows_symbols, raised_if, relation, step_symbols};
 
 use crate::forms::put_form;
 use crate::named::put_iterator;
@@ -82,12 +83,22 @@ fn put_ends(
     mark(out, Sign::RightParen)
 }
 
+fn constant_fits(form: &Aff) -> bool
+    ensures { result ≡ constant_fits form.now }
+{
+    form.constant.unsigned_abs() <= MOST_AFFINE
+}
+
+fn all_constants_fit(highs: &[Aff]) -> bool
+    ensures { result ≡ list_all constant_fits highs.now }
+{
+    highs.iter().all(|f| constant_fits(f))
+}
+
 fn is_strict(highs: &[Aff]) -> bool
     ensures { result ≡ is_strict highs.now }
 {
-    !highs
-        .iter()
-        .all(|f| f.constant.unsigned_abs() <= MOST_AFFINE)
+    !all_constants_fit(highs)
 }
 
 fn relation(strict: bool) -> Sign
@@ -120,6 +131,52 @@ fn put_lows(
     put_ends(alloc, out, letters, Keyword::Max, false, lows)
 }
 
+/// Adds `(`, the iterator, `=` and the low ends.
+fn put_beginning(
+    alloc: Global,
+    out: &mut List<Symbol>,
+    letters: usize,
+    level: u64,
+    lows: &[Aff],
+) -> Result<(), AllocError>
+    ensures { OnOk result (out.new ≡ out.old ++ beginning_symbols letters level lows.now) }
+{
+    mark(out, Sign::LeftParen)?;
+    put_iterator(alloc, out, letters, level)?;
+    mark(out, Sign::Equals)?;
+    put_lows(alloc, out, letters, lows)
+}
+
+/// Adds `;`, the iterator, the relation and the high ends.
+fn put_limit(
+    alloc: Global,
+    out: &mut List<Symbol>,
+    letters: usize,
+    level: u64,
+    highs: &[Aff],
+) -> Result<(), AllocError>
+    ensures { OnOk result (out.new ≡ out.old ++ limit_symbols letters level highs.now) }
+{
+    mark(out, Sign::Semicolon)?;
+    put_iterator(alloc, out, letters, level)?;
+    put_highs(alloc, out, letters, highs)
+}
+
+/// Adds `;`, the iterator, `++` and `)`.
+fn put_step(
+    alloc: Global,
+    out: &mut List<Symbol>,
+    letters: usize,
+    level: u64,
+) -> Result<(), AllocError>
+    ensures { OnOk result (out.new ≡ out.old ++ step_symbols letters level) }
+{
+    mark(out, Sign::Semicolon)?;
+    put_iterator(alloc, out, letters, level)?;
+    mark(out, Sign::Increment)?;
+    mark(out, Sign::RightParen)
+}
+
 /// Adds what stands between `for` and the body of a loop of this level.
 pub fn put_head(
     alloc: Global,
@@ -131,15 +188,7 @@ pub fn put_head(
 ) -> Result<(), AllocError>
     ensures { OnOk result (out.new ≡ out.old ++ head_symbols letters level lows.now highs.now) }
 {
-    mark(out, Sign::LeftParen)?;
-    put_iterator(alloc, out, letters, level)?;
-    mark(out, Sign::Equals)?;
-    put_lows(alloc, out, letters, lows)?;
-    mark(out, Sign::Semicolon)?;
-    put_iterator(alloc, out, letters, level)?;
-    put_highs(alloc, out, letters, highs)?;
-    mark(out, Sign::Semicolon)?;
-    put_iterator(alloc, out, letters, level)?;
-    mark(out, Sign::Increment)?;
-    mark(out, Sign::RightParen)
+    put_beginning(alloc, out, letters, level, lows)?;
+    put_limit(alloc, out, letters, level, highs)?;
+    put_step(alloc, out, letters, level)
 }

@@ -94,6 +94,7 @@ fn put_array(
 }
 
 /// Adds each array with its fill.
+#[tactic(auto, using(crate::proofs::Further::next_array, crate::proofs::Further::no_array))]
 pub fn put_arrays(
     alloc: Global,
     out: &mut List<Symbol>,
@@ -102,8 +103,8 @@ pub fn put_arrays(
 ) -> Result<(), AllocError>
     ensures { OnOk result (out.new ≡ out.old ++ arrays_symbols arrays.now fills.now) }
 {
-    for (array, fill) in arrays.iter().zip(fills) {
-        put_array(alloc, out, array, *fill)?;
+    for i in 0..arrays.len().min(fills.len()) {
+        put_array(alloc, out, &arrays[i], fills[i])?;
     }
     Ok(())
 }

@@ -1,5 +1,6 @@
 ghost use Rattle.std.specs.Prelude.{◌≡◌, ◌<◌, suc, [], ◌∷◌, ◌++◌, IfOk, OnOk};
-ghost use Rattle.ch_nestprint.specs.Printed.{assign_symbols, body_symbols, item_symbols, items_symbols, program_symbols, program_text};
+ghost use Rattle.ch_nestprint.specs.Minus.{minus_in_items};
+ghost use Rattle.ch_nestprint.specs.Printed.{assign_symbols, body_symbols, item_symbols, items_symbols, lets_symbols, parts_symbols, program_symbols, program_text};
 
 use crate::access::put_access;
 use crate::bounds::put_head;
@@ -86,6 +87,36 @@ fn put_items(
     Ok(())
 }
 
+/// Adds the lets that the items need.
+fn put_needed_lets(
+    alloc: Global,
+    out: &mut List<Symbol>,
+    letters: usize,
+    items: &[Item],
+) -> Result<(), AllocError>
+    ensures { OnOk result (out.new ≡ out.old ++ lets_symbols letters [] (minus_in_items items.now)) }
+{
+    let mut sizes = List::new(alloc);
+    items_sizes(&mut sizes, items)?;
+    put_lets(alloc, out, letters, sizes.as_slice())
+}
+
+/// Adds the lets, the arrays and the items.
+fn put_parts(
+    alloc: Global,
+    out: &mut List<Symbol>,
+    letters: usize,
+    arrays: &[ArrayDecl],
+    items: &[Item],
+    fills: &[Fill],
+) -> Result<(), AllocError>
+    ensures { OnOk result (out.new ≡ out.old ++ parts_symbols letters arrays.now items.now fills.now) }
+{
+    put_needed_lets(alloc, out, letters, items)?;
+    put_arrays(alloc, out, arrays, fills)?;
+    put_items(alloc, out, arrays, letters, items, 0)
+}
+
 /// Adds what stands between the braces of a program.
 fn put_body(
     alloc: Global,
@@ -96,13 +127,8 @@ fn put_body(
     ensures { OnOk result (out.new ≡ out.old ++ body_symbols nest.now fills.now) }
 {
     let arrays = nest.arrays.as_slice();
-    let items = nest.items.as_slice();
     let letters = longest(arrays);
-    let mut sizes = List::new(alloc);
-    items_sizes(&mut sizes, items)?;
-    put_lets(alloc, out, letters, sizes.as_slice())?;
-    put_arrays(alloc, out, arrays, fills)?;
-    put_items(alloc, out, arrays, letters, items, 0)
+    put_parts(alloc, out, letters, arrays, nest.items.as_slice(), fills)
 }
 
 fn symbols(

@@ -1,0 +1,42 @@
+-- The tokens of a printed program, as symbols.
+use Rattle.std.specs.Prelude.{ℕ, zero, suc, ◌+◌, nat_le, Bool, true, false, not, ◌&&◌, List, [], ◌∷◌, length, map, Option, Some, None}
+use Rattle.std.specs.List.{list_all}
+use Rattle.ch_lex.specs.Bytes.{begins, is_letter, is_word}
+use Rattle.ch_lex.specs.Keywords.{keyword_of}
+use Rattle.ch_lex.specs.Tokens.{most_number}
+use Rattle.ch_lex.specs.declared.keyword.Keyword.{Keyword}
+use Rattle.ch_lex.specs.declared.token.Kind.{Kind}
+use Rattle.ch_lex.specs.declared.token.Kind.TheVariants as kinds
+use Rattle.ch_lex.specs.declared.token.Token.{Token}
+use Rattle.ch_nestprint.specs.declared.layout.Layout.{Layout}
+use Rattle.ch_nestprint.specs.declared.symbol.Symbol.{Symbol}
+use Rattle.ch_nestprint.specs.declared.symbol.Symbol.TheVariants.{Name, Number, Key, Mark}
+use Rattle.ch_nestprint.specs.Layouts.{first_layout, gap, layout_after, symbol_text}
+
+abbrev pub is_no_keyword : Option Keyword → Bool
+is_no_keyword (Some k) = false
+is_no_keyword None = true
+
+-- a letter or an underscore, then letters, underscores and digits; and no keyword
+abbrev pub is_name : List ℕ → Bool
+is_name text = (begins is_letter text && list_all is_word text) && is_no_keyword (keyword_of text)
+
+-- a symbol that is a token of the language: its name is a name, its number isn't too large
+abbrev pub is_symbol : Symbol → Bool
+is_symbol (Name text) = is_name text
+is_symbol (Number n) = nat_le n most_number
+is_symbol (Key k) = true
+is_symbol (Mark s) = true
+
+abbrev pub kind_of : Symbol → Kind
+kind_of (Name text) = kinds.Name
+kind_of (Number n) = kinds.Number n
+kind_of (Key k) = kinds.Name
+kind_of (Mark s) = kinds.Sign s
+
+-- the token of each symbol where they are laid out from place `at` on
+unfoldable pub tokens_at : Layout → ℕ → List Symbol → List Token
+tokens_at layout at [] = []
+tokens_at layout at (s ∷ ss) =
+    record { kind = kind_of s; start = at; end = at + length (symbol_text s) }
+    ∷ tokens_at (layout_after layout s) (at + length (symbol_text s) + length (gap layout s ss)) ss
