@@ -14,7 +14,9 @@ one_form n form h = rw h
 
 pub forms_push : (n : ℕ) (forms : List Form) (form : Form) → IsTrue (list_all (form_fits n) forms) → IsTrue (form_fits n form) → IsTrue (list_all (form_fits n) (forms ++ form ∷ []))
 forms_push n [] form h f = rw f
-forms_push n (g ∷ gs) form h f = rw ((and_parts _ _ h).0) (forms_push n gs form ((and_parts _ _ h).1) f)
+forms_push n (g ∷ gs) form h f =
+    let first : form_fits n g ≡ true = (and_parts (form_fits n g) (list_all (form_fits n) gs) h).0 in
+    rw first (forms_push n gs form ((and_parts (form_fits n g) (list_all (form_fits n) gs) h).1) f)
 
 pub coefs_of : (n : ℕ) (forms : List Form) → IsTrue (list_all (form_fits n) forms) → IsTrue (list_all (coefs_fit n) forms)
 coefs_of n [] h = refl
@@ -39,4 +41,4 @@ lasts_fit strict n (f ∷ fs) h =
     rw (last_coefs strict n f, first) (lasts_fit strict n fs ((and_parts _ _ h).1))
 
 pub small_push : (boxes : List Range) (box : Range) → All IsSmall boxes → IsSmall box → All IsSmall (boxes ++ box ∷ [])
-small_push boxes box h s = ?
+small_push boxes box h s = All-append IsSmall boxes (box ∷ []) h (All-cons IsSmall box [] s (All-nil IsSmall))

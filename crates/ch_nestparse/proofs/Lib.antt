@@ -2,8 +2,15 @@ pub mod Ascii
 pub mod Cells
 pub mod Chains
 pub mod Fitting
+pub mod FormsFit
 pub mod Found
+pub mod Meant
 pub mod Narrow
+pub mod Nesting
 pub mod Nested
+pub mod Places
+pub mod Posts
+pub mod RightsFit
+pub mod Spelled
 pub mod Repeats
 pub mod Sums

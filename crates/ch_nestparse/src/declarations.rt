@@ -125,6 +125,7 @@ fn extent<'a>(
     ensures exact { Gives (λ r. (r.0, r.1.now)) result (extent_at bytes.now names.now array used found tokens.now) }
     ensures some { IfOk result (λ r. IsTrue (list_all (nat_le 1) r.0)) }
     ensures cells { IfOk result (λ r. used + cells_in r.0 ≤ 262144) }
+    ensures longer { IfOk result (λ r. length r.0 ≡ length found + 1) }
 {
     let mut found = found;
     let inside = sign(bytes, Code2::P1, Sign::LeftBracket, tokens)?;
@@ -154,9 +155,11 @@ fn more_extents<'a>(
     requires short { length bytes.now < 2 ^ 32 }
     requires some { IsTrue (list_all (nat_le 1) first) }
     requires cells { used + cells_in first ≤ 262144 }
+    requires one { length first ≡ 1 }
     ensures exact { Gives (λ r. (r.0, r.1.now)) result (repeated (opens_bracket bytes.now) (extent_at bytes.now names.now array used) 3 first tokens.now) }
     ensures some { IfOk result (λ r. IsTrue (list_all (nat_le 1) r.0)) }
     ensures cells { IfOk result (λ r. used + cells_in r.0 ≤ 262144) }
+    ensures few { IfOk result (λ r. length r.0 ≤ 4) }
 {
     let mut found = first;
     let mut rest = tokens;
@@ -186,6 +189,7 @@ fn extents<'a>(
     ensures exact { Gives (λ r. (r.0, r.1.now)) result (extents_at bytes.now names.now array used tokens.now) }
     ensures some { IfOk result (λ r. IsTrue (list_all (nat_le 1) r.0)) }
     ensures cells { IfOk result (λ r. used + cells_in r.0 ≤ 262144) }
+    ensures few { IfOk result (λ r. length r.0 ≤ 4) }
 {
     let none = List::new(alloc);
     let (first, rest) = extent(bytes, names, array, used, none, tokens)?;
@@ -223,7 +227,7 @@ pub(crate) struct Declared {
 }
 
 /// One array more.
-#[tactic(auto, unfolding(crate::specs::Declarations::array_at), using(crate::proofs::Cells::some_cells))]
+#[tactic(auto, unfolding(crate::specs::Declarations::array_at))]
 fn array<'a>(
     alloc: Global,
     bytes: &[u8],

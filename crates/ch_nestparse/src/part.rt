@@ -1,4 +1,4 @@
-ghost use Rattle.std.specs.Prelude.{◌≡◌, ◌≤◌, ◌^◌, pos, length, slice_set, false, Err, IfOk, IsTrue};
+ghost use Rattle.std.specs.Prelude.{◌≡◌, ◌≤◌, ◌^◌, pos, length, replicate, slice_set, false, Err, IfOk, IsTrue};
 ghost use Rattle.ch_affine.specs.Combined.{combined, is_wide};
 ghost use Rattle.ch_nest.specs.Shape.{form_fits};
 ghost use Rattle.ch_nestparse.specs.Forms.{access_part, constant_form, iterator_form, iterator_part, joined_parts, limit, named_part, narrow, negated, number_part, plain_part, times};
@@ -30,7 +30,7 @@ fn wide(at: u32, value: i128) -> ParseError
 }
 
 /// The part `a * x + b * y`, unless a number of it is too large.
-#[tactic(auto, using(crate::proofs::Narrow::none_wide, crate::proofs::Narrow::narrow_fits))]
+#[tactic(auto, using(crate::proofs::Narrow::combined_fits))]
 fn combined(
     alloc: Global,
     at: u32,
@@ -58,6 +58,7 @@ fn is_wide(z: i64) -> bool
 }
 
 /// The form of so many iterators that is a number everywhere.
+#[tactic(auto, using(crate::proofs::Narrow::constant_form_fits))]
 fn constant_form(alloc: Global, levels: u32, z: i64) -> Result<Aff, AllocError>
     requires levels { levels ≤ 6 }
     requires narrow { is_wide limit z ≡ false }
@@ -78,18 +79,25 @@ fn mark(coefs: &mut [i64], k: u32)
     }
 }
 
+/// 1 for one of so many iterators, and 0 for the others.
+fn iterator_coefs(alloc: Global, levels: u32, k: u32) -> Result<List<i64>, AllocError>
+    requires { levels ≤ 6 }
+    ensures { IfOk result (λ coefs. coefs ≡ slice_set (replicate levels (pos 0)) k (pos 1)) }
+{
+    let mut coefs = vec![in alloc; 0i64; levels as usize]?;
+    mark(coefs.as_mut_slice(), k);
+    Ok(List::from_vec(coefs))
+}
+
 /// The form of so many iterators that is one of them.
+#[tactic(auto, using(crate::proofs::Narrow::iterator_coefs_fit))]
 fn iterator_form(alloc: Global, levels: u32, k: u32) -> Result<Aff, AllocError>
     requires { levels ≤ 6 }
     ensures exact { IfOk result (λ f. f ≡ iterator_form levels k) }
     ensures fits { IfOk result (λ f. IsTrue (form_fits levels f)) }
 {
-    let mut coefs = vec![in alloc; 0i64; levels as usize]?;
-    mark(coefs.as_mut_slice(), k);
-    Ok(Aff {
-        coefs: List::from_vec(coefs),
-        constant: 0,
-    })
+    let coefs = iterator_coefs(alloc, levels, k)?;
+    Ok(Aff { coefs, constant: 0 })
 }
 
 /// The part of a number over so many iterators.

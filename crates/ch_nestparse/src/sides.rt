@@ -1,7 +1,8 @@
-ghost use Rattle.std.specs.Prelude.{◌≡◌, ℕ, ◌<◌, ◌≤◌, ◌^◌, length};
+ghost use Rattle.std.specs.Prelude.{◌≡◌, ℕ, ◌<◌, ◌≤◌, ◌^◌, length, IfOk};
+ghost use Rattle.ch_nest.specs.declared.nest.Expr.TheVariants as exprs;
 ghost use Rattle.ch_nestparse.specs.Expressions.{behind_minus, between_parens, counted_operand, factor, product, star_after, sum, term, unary};
 ghost use Rattle.ch_nestparse.specs.Gives.{Gives};
-ghost use Rattle.ch_nestparse.specs.Rights.{joined_right, negated_right, right_at, rights};
+ghost use Rattle.ch_nestparse.specs.Rights.{joined_right, right_at, rights};
 
 use crate::affine::{MOST_OPERANDS, begins_operand, factor_sign, opening, star_after, term_sign};
 use crate::ahead::{Opening, after, next_is, place, refused, seen, sign, text_at};
@@ -15,8 +16,8 @@ use std::alloc::{AllocError, Global};
 /// Parentheses and minus signs around one another.
 const MOST_NESTING: u32 = 32;
 
-fn negated(alloc: Global, x: Expr) -> Result<Expr, ParseError>
-    ensures { (at : ℕ) → Gives (λ e. e) result (negated_right at x) }
+fn negated(alloc: Global, x: Expr) -> Result<Expr, AllocError>
+    ensures { IfOk result (λ e. e ≡ exprs.Neg x) }
 {
     let x = Boxed::new(alloc, x)?;
     Ok(Expr::Neg(x))

@@ -1,4 +1,4 @@
-use Rattle.std.proofs.Common.{◌≡◌, ◌≤◌, ◌+◌, ◌-◌, nat_le}
+use Rattle.std.proofs.Common.{◌≡◌, ◌≤◌, ◌+◌, ◌-◌, length, nat_le}
 use Rattle.std.specs.Bool.{IsTrue}
 use Rattle.std.specs.List.{list_all}
 use Rattle.ch_nest.specs.Arrays.{cells_in}
@@ -12,4 +12,5 @@ invariant-loop-k l = record {
       ≡ repeated (opens_bracket l.bytes) (extent_at l.bytes l.names l.array l.used) 3 l.fn.first l.tokens;
   some : IsTrue (list_all (nat_le 1) l.found);
   cells : l.used + cells_in l.found ≤ 262144;
+  few : length l.found ≤ l._k + 1;
 }
