@@ -1,3 +1,6 @@
+pub mod Cases
 pub mod Further
 pub mod Laid
 pub mod Spelled
+pub mod Spelling
+pub mod Told

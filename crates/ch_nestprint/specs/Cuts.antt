@@ -8,6 +8,9 @@ use Rattle.ch_lex.specs.declared.keyword.Keyword.{Keyword}
 use Rattle.ch_lex.specs.declared.token.Kind.{Kind}
 use Rattle.ch_lex.specs.declared.token.Kind.TheVariants as kinds
 use Rattle.ch_lex.specs.declared.token.Token.{Token}
+use Rattle.ch_nestparse.specs.Read.{kind_look, text_of}
+use Rattle.ch_nestparse.specs.declared.ahead.Look.{Look}
+use Rattle.ch_nestparse.specs.declared.ahead.Look.TheVariants as looks
 use Rattle.ch_nestprint.specs.declared.layout.Layout.{Layout}
 use Rattle.ch_nestprint.specs.declared.symbol.Symbol.{Symbol}
 use Rattle.ch_nestprint.specs.declared.symbol.Symbol.TheVariants.{Name, Number, Key, Mark}
@@ -40,3 +43,14 @@ tokens_at layout at [] = []
 tokens_at layout at (s ∷ ss) =
     record { kind = kind_of s; start = at; end = at + length (symbol_text s) }
     ∷ tokens_at (layout_after layout s) (at + length (symbol_text s) + length (gap layout s ss)) ss
+
+-- a token as a symbol
+abbrev pub symbol_of_look : Look → List ℕ → Symbol
+symbol_of_look looks.Name text = Name text
+symbol_of_look (looks.Keyword k) text = Key k
+symbol_of_look (looks.Number n) text = Number n
+symbol_of_look (looks.Sign s) text = Mark s
+symbol_of_look looks.End text = Name []
+
+abbrev pub symbol_of : List ℕ → Token → Symbol
+symbol_of bytes t = symbol_of_look (kind_look t.kind (text_of bytes t)) (text_of bytes t)

@@ -13,3 +13,6 @@ mod right;
 mod symbol;
 
 pub use program::print_program;
+
+#[cfg(test)]
+mod tests;
