@@ -1,6 +1,9 @@
+pub mod AllSymbols
 pub mod Cases
 pub mod Further
 pub mod Laid
+pub mod Printing
+pub mod Seeing
 pub mod Spelled
 pub mod Spelling
 pub mod Told

@@ -1,9 +1,9 @@
 -- The tokens of a printed program, as symbols.
-use Rattle.std.specs.Prelude.{ℕ, zero, suc, ◌+◌, nat_le, Bool, true, false, not, ◌&&◌, List, [], ◌∷◌, length, map, Option, Some, None}
+use Rattle.std.specs.Prelude.{◌≡◌, Ok, ℕ, zero, suc, ◌+◌, nat_le, Bool, true, false, not, ◌&&◌, List, [], ◌∷◌, length, map, Option, Some, None}
 use Rattle.std.specs.List.{list_all}
 use Rattle.ch_lex.specs.Bytes.{begins, is_letter, is_word}
 use Rattle.ch_lex.specs.Keywords.{keyword_of}
-use Rattle.ch_lex.specs.Tokens.{most_number}
+use Rattle.ch_lex.specs.Tokens.{most_number, tokens_of}
 use Rattle.ch_lex.specs.declared.keyword.Keyword.{Keyword}
 use Rattle.ch_lex.specs.declared.token.Kind.{Kind}
 use Rattle.ch_lex.specs.declared.token.Kind.TheVariants as kinds
@@ -54,3 +54,7 @@ symbol_of_look looks.End text = Name []
 
 abbrev pub symbol_of : List ℕ → Token → Symbol
 symbol_of bytes t = symbol_of_look (kind_look t.kind (text_of bytes t)) (text_of bytes t)
+
+-- the tokens of the text are these symbols
+abbrev pub Shows : List ℕ → List Symbol → Type 0
+Shows text ss = (ts : List Token) × (tokens_of text ≡ Ok ts) × (map (symbol_of text) ts ≡ ss)

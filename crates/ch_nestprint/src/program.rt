@@ -1,5 +1,7 @@
 ghost use Rattle.std.specs.Prelude.{◌≡◌, ◌<◌, suc, [], ◌∷◌, ◌++◌, IfOk, OnOk};
 ghost use Rattle.ch_nestprint.specs.Minus.{minus_in_items};
+ghost use Rattle.ch_nestprint.specs.Cuts.{Shows};
+ghost use Rattle.ch_nestprint.specs.Printable.{IsPrintable};
 ghost use Rattle.ch_nestprint.specs.Printed.{assign_symbols, body_symbols, item_symbols, items_symbols, lets_symbols, parts_symbols, program_symbols, program_text};
 
 use crate::access::put_access;
@@ -148,10 +150,18 @@ fn symbols(
     Ok(out)
 }
 
+fn printed(alloc: Global, name: &Text, nest: &Nest, fills: &[Fill]) -> Result<Text, AllocError>
+    ensures { IfOk result (λ text. text ≡ program_text name.now nest.now fills.now) }
+{
+    let symbols = symbols(alloc, name, nest, fills)?;
+    spell(alloc, symbols.as_slice())
+}
+
 /// The text of a program: `program`, this name, and in braces the arrays with their fills and the items of the nest.
 ///
 /// Iterators are named by their level, and a negative number of a right side by a let of its own. There is one fill for each
 /// array.
+#[tactic(auto, using(crate::proofs::Printing::shows))]
 pub fn print_program(
     alloc: Global,
     name: &Text,
@@ -159,7 +169,7 @@ pub fn print_program(
     fills: &[Fill],
 ) -> Result<Text, AllocError>
     ensures text { IfOk result (λ text. text ≡ program_text name.now nest.now fills.now) }
+    ensures tokens { IsPrintable name.now nest.now fills.now → IfOk result (λ text. Shows text (program_symbols name.now nest.now fills.now)) }
 {
-    let symbols = symbols(alloc, name, nest, fills)?;
-    spell(alloc, symbols.as_slice())
+    printed(alloc, name, nest, fills)
 }
