@@ -1,8 +1,11 @@
 pub mod AllSymbols
+pub mod Amounts
 pub mod Cases
+pub mod FormsRead
 pub mod Further
 pub mod Laid
 pub mod Printing
+pub mod Reading
 pub mod Seeing
 pub mod Spelled
 pub mod Spelling

@@ -1,0 +1,155 @@
+-- A printed form is read as the form.
+use Rattle.std.proofs.Common.{◌≡◌, ℕ, zero, suc, ◌+◌, ◌*◌, ◌<◌, ◌≤◌, ℤ, pos, negsuc, ◌+ℤ◌, ◌*ℤ◌, unsigned_abs, Bool, true, false, not, ◌&&◌, nat_eq, List, [], ◌∷◌, ◌++◌, length, drop, replicate, Option, Some, None, Result, Ok, Err, refl, sym, ap, ◌∙◌, subst, append_assoc, length-append, arith}
+use Rattle.std.specs.Prelude.{neg_ℤ, slice_set}
+use Rattle.std.specs.List.{list_all}
+use Rattle.std.proofs.lemmas.Bool.{and_parts, and_from, eqb-true}
+use Rattle.std.proofs.lemmas.Bool.Decides.{nat_tests}
+use Rattle.std.proofs.lemmas.Int.{ints}
+use Rattle.std.proofs.lemmas.List.{append-nil}
+use Rattle.std.proofs.lemmas.List.Folds.{list_all-append}
+use Rattle.ch_affine.specs.Combined.{combined, combined_coefs}
+use Rattle.ch_affine.specs.Form.{Form}
+use Rattle.ch_lex.specs.declared.error.ParseError.{ParseError}
+use Rattle.ch_lex.specs.declared.token.Sign.{Sign}
+use Rattle.ch_lex.specs.declared.token.Sign.TheVariants as signs
+use Rattle.ch_lex.specs.declared.token.Token.{Token}
+use Rattle.ch_nest.specs.Limits.{most_affine}
+use Rattle.ch_nest.specs.Shape.{is_at_most}
+use Rattle.ch_nestparse.specs.declared.ahead.Look.{Look}
+use Rattle.ch_nestparse.specs.declared.ahead.Look.TheVariants as looks
+use Rattle.ch_nestparse.specs.declared.part.Part.{Part}
+use Rattle.ch_nestparse.specs.declared.scope.Named.{Named}
+use Rattle.ch_nestparse.specs.declared.scope.Named.TheVariants.{Let, Array, Iterator}
+use Rattle.ch_nestparse.specs.Expressions.{Counted, Reader, Sort, begins_operand, expression, factor_sign, more_factors, more_terms, product, star_after, sum, term_sign, unary}
+use Rattle.ch_nestparse.specs.Forms.{constant_form, form_at, iterator_form, iterator_part, joined_parts, limit, named_part, narrow, number_part, number_part_if, operand_part, parts, plain_part, times}
+use Rattle.ch_nestparse.specs.Read.{◌>>=◌, Names, find_name, is_sign, next_is, place, seen, text_at}
+use Rattle.ch_nestprint.specs.declared.symbol.Symbol.{Symbol}
+use Rattle.ch_nestprint.specs.declared.symbol.Symbol.TheVariants.{Name, Number, Key, Mark}
+use Rattle.ch_nestprint.specs.Ends.{coef_if, coef_symbols, constant_if, constant_symbols, form_symbols, is_below, is_none, lead, terms_symbols, times_if}
+use Rattle.ch_nestprint.specs.Names.{iterator_name}
+use Rattle.ch_nestprint.proofs.Amounts.{IsSmall, all_kept, amount, amount_is, factor_of, iterator_unit, kept, narrow_is, new, none_is, not_wide, nothing, nothing_small, size_small, unit, unit_added, unit_times}
+use Rattle.ch_nestprint.proofs.Reading.{At, Reached, factor_on, operand_given, product_begun, product_ends, sum_begun, sum_ends, term_on}
+use Rattle.ch_nestprint.proofs.Seeing.{Given, Passed, Sees, Valued, behind_front, front, given_bind, given_ok, seen_front, text_front}
+
+-- no product, and no subscript, goes on here
+pub record Calm (rest : List Symbol) : Type 0 where
+  pub stars : factor_sign (front rest) ≡ None
+  pub brackets : is_sign signs.LeftBracket (front rest) ≡ false
+
+abbrev pub mark_of : Bool → Sign
+mark_of false = signs.Plus
+mark_of true = signs.Minus
+
+mark_adds : (below : Bool) → term_sign (looks.Sign (mark_of below)) ≡ Some (mark_of below)
+mark_adds false = refl
+mark_adds true = refl
+
+-- a form that is made of two
+abbrev pub IsForm : Form → Part → Type 0
+IsForm f p = p.form ≡ f
+
+abbrev IsConstant : ℕ → ℤ → Part → Type 0
+IsConstant levels z p = (p.form ≡ constant_form levels z) × (p.iterates ≡ false)
+
+abbrev pub form : List ℤ → ℤ → Form
+form coefs z = record { coefs = coefs; constant = z }
+
+zero_times : (size : ℕ) → pos 0 *ℤ pos size +ℤ pos size *ℤ pos 0 ≡ pos 0
+zero_times size = omega (arith, ints)
+
+unit_small : (size k m : ℕ) → is_at_most most_affine (pos size) ≡ true → list_all (is_at_most most_affine) (unit (pos size) k m) ≡ true
+unit_small size k m h = rw (list_all-append, nothing_small k, h, nothing_small m) refl
+
+narrow_given : (at : ℕ) (f g : Form) (iterates : Bool) → f ≡ g → IsSmall g → Given (IsForm g) (narrow at f iterates)
+narrow_given at f g iterates e h =
+    (record { form = g; iterates = iterates }, ap (λ (x : Form). narrow at x iterates) e ∙ narrow_is at g iterates h, refl)
+
+joined_given : (below : Bool) (at : ℕ) (a b : Part) (x y g : Form) → a.form ≡ x → b.form ≡ y → combined (pos 1) x (factor_of below) y ≡ g → IsSmall g
+    → Given (IsForm g) (joined_parts (mark_of below) at a b)
+joined_given false at a b x y g e f h small = narrow_given at (combined (pos 1) a.form (pos 1) b.form) g _ (rw (e, f) h) small
+joined_given true at a b x y g e f h small = narrow_given at (combined (pos 1) a.form (negsuc 0) b.form) g _ (rw (e, f) h) small
+
+times_given : (at : ℕ) (a b : Part) (x y g : Form) → a.form ≡ x → a.iterates ≡ false → b.form ≡ y → combined (pos 0) x x.constant y ≡ g → IsSmall g
+    → Given (IsForm g) (joined_parts signs.Star at a b)
+times_given at a b x y g e i f h small =
+    let c = narrow_given at (combined (pos 0) a.form a.form.constant b.form) g b.iterates (rw (e, f) h) small in
+    (c.0, ap (λ (t : Bool). times t at a b) i ∙ c.1, c.2)
+
+module _ (bytes : List ℕ) (names : Names) (levels letters left : ℕ) (iterators : (k : ℕ) → k < levels → find_name (iterator_name letters k) names ≡ Some (Iterator k)) where
+  abbrev sort : Sort Part
+  sort = parts bytes names levels
+
+  abbrev inner : Reader Part
+  inner = unary bytes sort left
+
+  abbrev AtPart : (Part → Type 0) → ℕ → List Symbol → Part × ℕ × List Token → Type 0
+  AtPart = At bytes sort
+
+  abbrev Summed : Form → ℕ → List Symbol → Counted Part → Type 0
+  Summed f m rest r = Reached bytes sort (IsForm f) m m rest (more_terms bytes sort inner None) r
+
+  number_operand : (star : Option ℕ) (n : ℕ) (ts : List Token) (rest : List Symbol) (size : ℕ) → n < 256 → is_at_most most_affine (pos size) ≡ true → Sees bytes ts (Number size ∷ rest)
+      → Given (AtPart (IsConstant levels (pos size)) (n + 1) rest) (inner star n ts)
+  unfolding parts
+  number_operand star n ts rest size l h s =
+      let e : seen bytes ts ≡ looks.Number size = seen_front bytes ts (Number size ∷ rest) s in
+      let p : Part = record { form = constant_form levels (pos size); iterates = false } in
+      let at = place bytes ts in
+      let made : operand_part levels star at (next_is bytes signs.LeftBracket (drop 1 ts)) (seen bytes ts) (find_name (text_at bytes ts) names) ≡ Ok p =
+      ap (λ (look : Look). operand_part levels star at (next_is bytes signs.LeftBracket (drop 1 ts)) look (find_name (text_at bytes ts) names)) e
+      ∙ ap (λ (b : Bool). number_part_if b levels at (pos size)) (not_wide (pos size) h) in
+      operand_given bytes sort (IsConstant levels (pos size)) left star n ts rest (ap begins_operand e) l
+      ((p, drop 1 ts), ap (λ (r : Result Part ParseError). r >>= λ q. Ok (q, drop 1 ts)) made, ((refl, refl), behind_front bytes ts (Number size) rest s))
+
+  iterator_operand : (n : ℕ) (ts : List Token) (rest : List Symbol) (k : ℕ) → n < 256 → k < levels → is_sign signs.LeftBracket (front rest) ≡ false → Sees bytes ts (Name (iterator_name letters k) ∷ rest)
+      → Given (AtPart (IsForm (iterator_form levels k)) (n + 1) rest) (inner None n ts)
+  unfolding parts
+  iterator_operand n ts rest k l m b s =
+      let e : seen bytes ts ≡ looks.Name = seen_front bytes ts (Name (iterator_name letters k) ∷ rest) s in
+      let p : Part = record { form = iterator_form levels k; iterates = true } in
+      let at = place bytes ts in
+      let behind = behind_front bytes ts (Name (iterator_name letters k)) rest s in
+      let bracket : next_is bytes signs.LeftBracket (drop 1 ts) ≡ false = ap (is_sign signs.LeftBracket) (seen_front bytes (drop 1 ts) rest behind) ∙ b in
+      let found : find_name (text_at bytes ts) names ≡ Some (Iterator k) = ap (λ (t : List ℕ). find_name t names) (text_front bytes ts (iterator_name letters k) rest s) ∙ iterators k m in
+      let made : operand_part levels None at (next_is bytes signs.LeftBracket (drop 1 ts)) (seen bytes ts) (find_name (text_at bytes ts) names) ≡ Ok p =
+      ap (λ (look : Look). operand_part levels None at (next_is bytes signs.LeftBracket (drop 1 ts)) look (find_name (text_at bytes ts) names)) e
+      ∙ ap (λ (b : Bool). named_part levels None at b (find_name (text_at bytes ts) names)) bracket
+      ∙ ap (λ (o : Option Named). plain_part levels None at o) found in
+      operand_given bytes sort (IsForm (iterator_form levels k)) left None n ts rest (ap begins_operand e) l
+      ((p, drop 1 ts), ap (λ (r : Result Part ParseError). r >>= λ q. Ok (q, drop 1 ts)) made, (refl, behind))
+
+  -- how many operands a term has
+  abbrev extra : Bool → ℕ
+  extra true = 1
+  extra false = 2
+
+  number_product : (n : ℕ) (ts : List Token) (rest : List Symbol) (size : ℕ) → n < 256 → is_at_most most_affine (pos size) ≡ true → Calm rest → Sees bytes ts (Number size ∷ rest)
+      → Given (AtPart (IsConstant levels (pos size)) (n + 1) rest) (product bytes sort inner None n ts)
+  number_product n ts rest size l h calm s =
+      product_ends bytes sort inner None (IsConstant levels (pos size)) (n + 1) 1 rest (product bytes sort inner None n ts) calm.stars
+      (product_begun bytes sort inner None (IsConstant levels (pos size)) (n + 1) 1 n ts rest (number_operand None n ts rest size l h s))
+
+  times_product : (alone : Bool) (n : ℕ) (ts : List Token) (rest : List Symbol) (size k m : ℕ) → nat_eq size 1 ≡ alone → n + 2 < 256 → levels ≡ k + suc m → is_at_most most_affine (pos size) ≡ true
+      → Calm rest → Sees bytes ts (times_if alone size (iterator_name letters k) ++ rest)
+      → Given (AtPart (IsForm (form (unit (pos size) k m) (pos 0))) (n + extra alone) rest) (product bytes sort inner None n ts)
+  unfolding parts
+  times_product true n ts rest size k m a l e h calm s =
+      let one : size ≡ 1 = eqb-true size 1 a in
+      let f : iterator_form levels k ≡ form (unit (pos size) k m) (pos 0) = rw one (ap (λ (xs : List ℤ). form xs (pos 0)) (iterator_unit levels k m e)) in
+      let g = iterator_operand n ts rest k (omega arith) (omega arith) calm.brackets s in
+      let q : Part → Type 0 = IsForm (form (unit (pos size) k m) (pos 0)) in
+      product_ends bytes sort inner None q (n + 1) 1 rest (product bytes sort inner None n ts) calm.stars
+      (product_begun bytes sort inner None q (n + 1) 1 n ts rest (g.0, g.1, (g.2.0 ∙ f, g.2.1, g.2.2)))
+  times_product false n ts rest size k m a l e h calm s =
+      let behind : List Symbol = Name (iterator_name letters k) ∷ rest in
+      let q : Part → Type 0 = IsForm (form (unit (pos size) k m) (pos 0)) in
+      let first = product_begun bytes sort inner None (IsConstant levels (pos size)) (n + 1) 1 n ts (Mark signs.Star ∷ behind) (number_operand None n ts (Mark signs.Star ∷ behind) size (omega arith) h s) in
+      let twice : n + 1 + 1 ≡ n + 2 = omega arith in
+      let small : IsSmall (form (unit (pos size) k m) (pos 0)) = (unit_small size k m h, refl) in
+      let made : combined (pos 0) (constant_form levels (pos size)) (pos size) (form (unit (pos 1) k m) (pos 0)) ≡ form (unit (pos size) k m) (pos 0) =
+      rw (unit_times size levels k m e, zero_times size) refl in
+      let lone : iterator_form levels k ≡ form (unit (pos 1) k m) (pos 0) = ap (λ (xs : List ℤ). form xs (pos 0)) (iterator_unit levels k m e) in
+      product_ends bytes sort inner None q (n + 2) 2 rest (product bytes sort inner None n ts) calm.stars
+      (rw (← twice) (factor_on bytes sort inner None (IsConstant levels (pos size)) (IsForm (iterator_form levels k)) q (n + 1) (n + 1 + 1) 1 2 behind rest (product bytes sort inner None n ts) (omega arith) (omega arith) first
+      (λ p is here us sees. rw is.1 (iterator_operand (n + 1) us rest k (omega arith) (omega arith) calm.brackets sees))
+      (λ here x y is f. times_given here x y (constant_form levels (pos size)) (form (unit (pos 1) k m) (pos 0)) (form (unit (pos size) k m) (pos 0)) is.0 is.1 (f ∙ lone) made small)))
