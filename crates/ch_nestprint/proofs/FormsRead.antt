@@ -123,6 +123,14 @@ module _ (bytes : List ℕ) (names : Names) (levels letters left : ℕ) (iterato
   extra true = 1
   extra false = 2
 
+  some_extra : (alone : Bool) (m : ℕ) → m < m + extra alone
+  some_extra true m = omega arith
+  some_extra false m = omega arith
+
+  few_extra : (alone : Bool) (m n : ℕ) → m + 2 * n + 5 < 256 → m + extra alone + 2 * n + 3 < 256
+  few_extra true m n h = omega arith
+  few_extra false m n h = omega arith
+
   number_product : (n : ℕ) (ts : List Token) (rest : List Symbol) (size : ℕ) → n < 256 → is_at_most most_affine (pos size) ≡ true → Calm rest → Sees bytes ts (Number size ∷ rest)
       → Given (AtPart (IsConstant levels (pos size)) (n + 1) rest) (product bytes sort inner None n ts)
   number_product n ts rest size l h calm s =
@@ -153,3 +161,113 @@ module _ (bytes : List ℕ) (names : Names) (levels letters left : ℕ) (iterato
       (rw (← twice) (factor_on bytes sort inner None (IsConstant levels (pos size)) (IsForm (iterator_form levels k)) q (n + 1) (n + 1 + 1) 1 2 behind rest (product bytes sort inner None n ts) (omega arith) (omega arith) first
       (λ p is here us sees. rw is.1 (iterator_operand (n + 1) us rest k (omega arith) (omega arith) calm.brackets sees))
       (λ here x y is f. times_given here x y (constant_form levels (pos size)) (form (unit (pos 1) k m) (pos 0)) (form (unit (pos size) k m) (pos 0)) is.0 is.1 (f ∙ lone) made small)))
+
+  -- one part more of a form
+
+  amount_small : (below : Bool) (size : ℕ) → is_at_most most_affine (pos size) ≡ true → is_at_most most_affine (amount below size) ≡ true
+  amount_small false size h = h
+  amount_small true zero h = h
+  amount_small true (suc size) h = h
+
+  constant_step : (below : Bool) (xs : List ℤ) (size m : ℕ) (more : List Symbol) (r : Counted Part) → levels ≡ length xs → list_all (is_at_most most_affine) xs ≡ true
+      → is_at_most most_affine (pos size) ≡ true → m + 1 < 256 → Calm more → Summed (form xs (pos 0)) m (Mark (mark_of below) ∷ Number size ∷ more) r
+      → Summed (form xs (amount below size)) (m + 1) more r
+  unfolding parts
+  constant_step below xs size m more r e small h l calm before =
+      let made : combined (pos 1) (form xs (pos 0)) (factor_of below) (constant_form levels (pos size)) ≡ form xs (amount below size) = rw (all_kept below xs levels e, new below size) refl in
+      term_on bytes sort inner None (IsForm (form xs (pos 0))) (IsConstant levels (pos size)) (IsForm (form xs (amount below size))) m (m + 1) m (m + 1) (mark_of below) (Number size ∷ more) more r
+      (omega arith) (omega arith) (mark_adds below) before
+      (λ us sees. number_product m us more size (omega arith) h calm sees)
+      (λ at a b is f. joined_given below at a b (form xs (pos 0)) (constant_form levels (pos size)) (form xs (amount below size)) is f.0 made (small, amount_small below size h))
+
+  coef_step : (alone below : Bool) (done : List ℤ) (k n size m : ℕ) (more : List Symbol) (r : Counted Part) → nat_eq size 1 ≡ alone → k ≡ length done → levels ≡ k + suc n
+      → list_all (is_at_most most_affine) done ≡ true → is_at_most most_affine (pos size) ≡ true → m + 3 < 256 → Calm more
+      → Summed (form (done ++ nothing (suc n)) (pos 0)) m (Mark (mark_of below) ∷ (times_if alone size (iterator_name letters k) ++ more)) r
+      → Summed (form (done ++ amount below size ∷ nothing n) (pos 0)) (m + extra alone) more r
+  unfolding parts
+  coef_step alone below done k n size m more r a e f small h l calm before =
+      let x : Form = form (done ++ nothing (suc n)) (pos 0) in
+      let y : Form = form (unit (pos size) k n) (pos 0) in
+      let z : Form = form (done ++ amount below size ∷ nothing n) (pos 0) in
+      let made : combined (pos 1) x (factor_of below) y ≡ z = rw (unit_added below size done k n e, kept below (pos 0)) refl in
+      let fits : IsSmall z = (rw (list_all-append, small, amount_small below size h, nothing_small n) refl, refl) in
+      term_on bytes sort inner None (IsForm x) (IsForm y) (IsForm z) m (m + extra alone) m (m + extra alone) (mark_of below) (times_if alone size (iterator_name letters k) ++ more) more r
+      (omega arith) (some_extra alone m) (mark_adds below) before
+      (λ us sees. times_product alone m us more size k n a (omega arith) f h calm sees)
+      (λ at u v is g. joined_given below at u v x y z is g made fits)
+
+  -- what stands behind a first term
+
+  lead_is : (below : Bool) → lead false below ≡ Mark (mark_of below) ∷ []
+  lead_is false = refl
+  lead_is true = refl
+
+  calm_lead : (below : Bool) (xs rest : List Symbol) → Calm ((lead false below ++ xs) ++ rest)
+  calm_lead false xs rest = record { stars = refl; brackets = refl }
+  calm_lead true xs rest = record { stars = refl; brackets = refl }
+
+  calm_constant : (skip : Bool) (z : ℤ) (rest : List Symbol) → Calm rest → Calm (constant_if skip false z ++ rest)
+  calm_constant true z rest calm = calm
+  calm_constant false z rest calm = calm_lead (is_below z) (Number (unsigned_abs z) ∷ []) rest
+
+  calm_coef : (skip : Bool) (c : ℤ) (k : ℕ) (more rest : List Symbol) → Calm (more ++ rest) → Calm ((coef_if skip letters false c k ++ more) ++ rest)
+  calm_coef true c k more rest calm = calm
+  calm_coef false c k more rest calm =
+      let t = times_if (nat_eq (unsigned_abs c) 1) (unsigned_abs c) (iterator_name letters k) in
+      rw (append_assoc (lead false (is_below c)) t more) (calm_lead (is_below c) (t ++ more) rest)
+
+  calm_terms : (k : ℕ) (cs : List ℤ) (z : ℤ) (rest : List Symbol) → Calm rest → Calm (terms_symbols letters false k cs z ++ rest)
+  calm_terms k [] z rest calm = calm_constant (is_none z) z rest calm
+  calm_terms k (c ∷ cs) z rest calm = calm_coef (is_none c) c k (terms_symbols letters false (k + 1) cs z) rest (calm_terms (k + 1) cs z rest calm)
+
+  last_read : (skip : Bool) (xs : List ℤ) (z : ℤ) (m : ℕ) (rest : List Symbol) (r : Counted Part) → is_none z ≡ skip → levels ≡ length xs → list_all (is_at_most most_affine) xs ≡ true
+      → is_at_most most_affine z ≡ true → m + 1 < 256 → Calm rest → Summed (form xs (pos 0)) m (constant_if skip false z ++ rest) r → (n : ℕ) × Summed (form xs z) n rest r
+  last_read true xs z m rest r none e small h l calm before = (m, rw (none_is z none) before)
+  last_read false xs z m rest r none e small h l calm before =
+      let there = rw (lead_is (is_below z)) at before in
+      let made = constant_step (is_below z) xs (unsigned_abs z) m rest r e small (size_small z h) l calm there in
+      (m + 1, rw (amount_is z) at made)
+
+  abbrev MoreRead : List ℤ → Type 0
+  MoreRead coefs = (done : List ℤ) (k : ℕ) (z : ℤ) (m : ℕ) (rest : List Symbol) (r : Counted Part) → k ≡ length done → levels ≡ k + length coefs
+      → list_all (is_at_most most_affine) done ≡ true → list_all (is_at_most most_affine) coefs ≡ true → is_at_most most_affine z ≡ true → m + 2 * length coefs + 3 < 256 → Calm rest
+      → Summed (form (done ++ nothing (length coefs)) (pos 0)) m (terms_symbols letters false k coefs z ++ rest) r → (n : ℕ) × Summed (form (done ++ coefs) z) n rest r
+
+  next_read : (skip : Bool) (c : ℤ) (cs : List ℤ) → MoreRead cs → (done : List ℤ) (k : ℕ) (z : ℤ) (m : ℕ) (rest : List Symbol) (r : Counted Part) → is_none c ≡ skip → k ≡ length done → levels ≡ k + suc (length cs)
+      → list_all (is_at_most most_affine) done ≡ true → is_at_most most_affine c ≡ true → list_all (is_at_most most_affine) cs ≡ true → is_at_most most_affine z ≡ true
+      → m + 2 * length cs + 5 < 256 → Calm rest
+      → Summed (form (done ++ nothing (suc (length cs))) (pos 0)) m ((coef_if skip letters false c k ++ terms_symbols letters false (k + 1) cs z) ++ rest) r → (n : ℕ) × Summed (form (done ++ c ∷ cs) z) n rest r
+  next_read true c cs again done k z m rest r none e f small first smalls h l calm before =
+      let zero : c ≡ pos 0 = none_is c none in
+      let moved : done ++ pos 0 ∷ nothing (length cs) ≡ (done ++ c ∷ []) ++ nothing (length cs) = rw (zero, append_assoc) refl in
+      let there = rw moved at before in
+      let joined : (done ++ c ∷ []) ++ cs ≡ done ++ c ∷ cs = append_assoc done (c ∷ []) cs in
+      let long : k + 1 ≡ length (done ++ c ∷ []) = simp length-append (omega arith) in
+      let fits : list_all (is_at_most most_affine) (done ++ c ∷ []) ≡ true = rw (list_all-append, small, first) refl in
+      let more = again (done ++ c ∷ []) (k + 1) z m rest r long (omega arith) fits smalls h (omega arith) calm there in
+      rw joined at more
+  next_read false c cs again done k z m rest r none e f small first smalls h l calm before =
+      let size = unsigned_abs c in
+      let alone = nat_eq size 1 in
+      let terms = terms_symbols letters false (k + 1) cs z in
+      let there = rw (lead_is (is_below c)) at before in
+      let here : Summed (form (done ++ nothing (suc (length cs))) (pos 0)) m (Mark (mark_of (is_below c)) ∷ (times_if alone size (iterator_name letters k) ++ (terms ++ rest))) r = rw (← append_assoc (times_if alone size (iterator_name letters k)) terms rest) there in
+      let made = coef_step alone (is_below c) done k (length cs) size m (terms ++ rest) r refl e f small (size_small c first) (omega arith) (calm_terms (k + 1) cs z rest calm) here in
+      let moved : done ++ c ∷ nothing (length cs) ≡ (done ++ c ∷ []) ++ nothing (length cs) = rw append_assoc refl in
+      let after = rw (amount_is c, moved) at made in
+      let joined : (done ++ c ∷ []) ++ cs ≡ done ++ c ∷ cs = append_assoc done (c ∷ []) cs in
+      let long : k + 1 ≡ length (done ++ c ∷ []) = simp length-append (omega arith) in
+      let fits : list_all (is_at_most most_affine) (done ++ c ∷ []) ≡ true = rw (list_all-append, small, first) refl in
+      let few : m + extra alone + 2 * length cs + 3 < 256 = few_extra alone m (length cs) l in
+      let more = again (done ++ c ∷ []) (k + 1) z (m + extra alone) rest r long (omega arith) fits smalls h few calm after in
+      rw joined at more
+
+  more_read : (coefs : List ℤ) → MoreRead coefs
+  more_read [] done k z m rest r e f small smalls h l calm before =
+      let whole : done ++ nothing 0 ≡ done ++ [] = refl in
+      let long : levels ≡ length (done ++ []) = simp length-append (omega arith) in
+      let fits : list_all (is_at_most most_affine) (done ++ []) ≡ true = rw (list_all-append, small) refl in
+      last_read (is_none z) (done ++ []) z m rest r refl long fits h (omega arith) calm before
+  more_read (c ∷ cs) done k z m rest r e f small smalls h l calm before =
+      let parts = and_parts (is_at_most most_affine c) (list_all (is_at_most most_affine) cs) smalls in
+      next_read (is_none c) c cs (more_read cs) done k z m rest r refl e f small parts.0 parts.1 h (omega arith) calm before
