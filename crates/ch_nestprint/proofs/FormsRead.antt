@@ -127,6 +127,14 @@ module _ (bytes : List ℕ) (names : Names) (levels letters left : ℕ) (iterato
   some_extra true m = omega arith
   some_extra false m = omega arith
 
+  least_extra : (alone : Bool) → 0 + extra alone ≤ 3
+  least_extra true = omega arith
+  least_extra false = omega arith
+
+  more_extra : (alone : Bool) → 1 + extra alone ≤ 3
+  more_extra true = omega arith
+  more_extra false = omega arith
+
   few_extra : (alone : Bool) (m n : ℕ) → m + 2 * n + 5 < 256 → m + extra alone + 2 * n + 3 < 256
   few_extra true m n h = omega arith
   few_extra false m n h = omega arith
@@ -271,3 +279,111 @@ module _ (bytes : List ℕ) (names : Names) (levels letters left : ℕ) (iterato
   more_read (c ∷ cs) done k z m rest r e f small smalls h l calm before =
       let parts = and_parts (is_at_most most_affine c) (list_all (is_at_most most_affine) cs) smalls in
       next_read (is_none c) c cs (more_read cs) done k z m rest r refl e f small parts.0 parts.1 h (omega arith) calm before
+
+  -- a whole form
+
+  nothing_long : (n : ℕ) → length (nothing n) ≡ n
+  nothing_long zero = refl
+  nothing_long (suc n) = let e = nothing_long n in omega (arith, e)
+
+  nothing_joined : (k n : ℕ) → nothing k ++ nothing n ≡ nothing (k + n)
+  nothing_joined zero n = ap nothing (omega arith)
+  nothing_joined (suc k) n =
+      let e : suc k + n ≡ suc (k + n) = omega arith in
+      rw e (ap (λ (t : List ℤ). pos 0 ∷ t) (nothing_joined k n))
+
+  -- a form that begins with a number
+  number_first : (n : ℕ) (ts : List Token) (rest : List Symbol) (size : ℕ) → is_at_most most_affine (pos size) ≡ true → Calm rest → Sees bytes ts (Number size ∷ rest)
+      → Summed (form (nothing levels) (pos size)) 1 rest (sum bytes sort inner None 0 ts)
+  number_first n ts rest size h calm s =
+      let g = number_product 0 ts rest size (omega arith) h calm s in
+      sum_begun bytes sort inner None (IsForm (form (nothing levels) (pos size))) 1 1 0 ts rest (g.0, g.1, (g.2.0.0, g.2.1, g.2.2))
+
+  constant_first : (below : Bool) (z : ℤ) (ts : List Token) (rest : List Symbol) → is_below z ≡ below → is_at_most most_affine z ≡ true → Calm rest
+      → Sees bytes ts ((lead true below ++ Number (unsigned_abs z) ∷ []) ++ rest) → (n : ℕ) × Summed (form (nothing levels) z) n rest (sum bytes sort inner None 0 ts)
+  constant_first false z ts rest e h calm s =
+      let is : pos (unsigned_abs z) ≡ z = rw e at (amount_is z) in
+      let made = number_first 0 ts rest (unsigned_abs z) (size_small z h) calm s in
+      (1, rw is at made)
+  constant_first true z ts rest e h calm s =
+      let is : amount true (unsigned_abs z) ≡ z = rw e at (amount_is z) in
+      let calm_minus : Calm (Mark signs.Minus ∷ Number (unsigned_abs z) ∷ rest) = record { stars = refl; brackets = refl } in
+      let before = number_first 0 ts (Mark signs.Minus ∷ Number (unsigned_abs z) ∷ rest) 0 refl calm_minus s in
+      let made = constant_step true (nothing levels) (unsigned_abs z) 1 rest (sum bytes sort inner None 0 ts) (sym (nothing_long levels)) (nothing_small levels) (size_small z h) (omega arith) calm before in
+      (2, rw is at made)
+
+  abbrev FirstRead : List ℤ → Type 0
+  FirstRead coefs = (k : ℕ) (z : ℤ) (ts : List Token) (rest : List Symbol) → levels ≡ k + length coefs → list_all (is_at_most most_affine) coefs ≡ true → is_at_most most_affine z ≡ true
+      → 2 * length coefs + 10 < 256 → Calm rest → Sees bytes ts (terms_symbols letters true k coefs z ++ rest) → (n : ℕ) × Summed (form (nothing k ++ coefs) z) n rest (sum bytes sort inner None 0 ts)
+
+  coef_first : (below : Bool) (c : ℤ) (cs : List ℤ) (k : ℕ) (z : ℤ) (ts : List Token) (rest : List Symbol) → is_below c ≡ below → levels ≡ k + suc (length cs)
+      → is_at_most most_affine c ≡ true → list_all (is_at_most most_affine) cs ≡ true → is_at_most most_affine z ≡ true → 2 * length cs + 10 < 256 → Calm rest
+      → Sees bytes ts (lead true below ++ (times_if (nat_eq (unsigned_abs c) 1) (unsigned_abs c) (iterator_name letters k) ++ (terms_symbols letters false (k + 1) cs z ++ rest)))
+      → (m : ℕ) × (m ≤ 3) × Summed (form (nothing k ++ c ∷ nothing (length cs)) (pos 0)) m (terms_symbols letters false (k + 1) cs z ++ rest) (sum bytes sort inner None 0 ts)
+  coef_first false c cs k z ts rest e f first smalls h l calm s =
+      let size = unsigned_abs c in
+      let alone = nat_eq size 1 in
+      let more = terms_symbols letters false (k + 1) cs z ++ rest in
+      let is : pos size ≡ c = rw e at (amount_is c) in
+      let g = times_product alone 0 ts more size k (length cs) refl (omega arith) f (size_small c first) (calm_terms (k + 1) cs z rest calm) s in
+      let q : Part → Type 0 = IsForm (form (unit (pos size) k (length cs)) (pos 0)) in
+      let made = sum_begun bytes sort inner None q (0 + extra alone) (0 + extra alone) 0 ts more g in
+      (0 + extra alone, least_extra alone, rw is at made)
+  coef_first true c cs k z ts rest e f first smalls h l calm s =
+      let size = unsigned_abs c in
+      let alone = nat_eq size 1 in
+      let more = terms_symbols letters false (k + 1) cs z ++ rest in
+      let is : amount true size ≡ c = rw e at (amount_is c) in
+      let behind : List Symbol = Mark signs.Minus ∷ (times_if alone size (iterator_name letters k) ++ more) in
+      let calm_minus : Calm behind = record { stars = refl; brackets = refl } in
+      let before = number_first 0 ts behind 0 refl calm_minus s in
+      let whole : nothing levels ≡ nothing k ++ nothing (suc (length cs)) = ap nothing f ∙ sym (nothing_joined k (suc (length cs))) in
+      let there : Summed (form (nothing k ++ nothing (suc (length cs))) (pos 0)) 1 behind (sum bytes sort inner None 0 ts) = rw whole at before in
+      let made = coef_step alone true (nothing k) k (length cs) size 1 more (sum bytes sort inner None 0 ts) refl (sym (nothing_long k)) f (nothing_small k) (size_small c first) (omega arith) (calm_terms (k + 1) cs z rest calm) there in
+      (1 + extra alone, more_extra alone, rw is at made)
+
+  choose_first : (skip : Bool) (c : ℤ) (cs : List ℤ) → FirstRead cs → (k : ℕ) (z : ℤ) (ts : List Token) (rest : List Symbol) → is_none c ≡ skip → levels ≡ k + suc (length cs)
+      → is_at_most most_affine c ≡ true → list_all (is_at_most most_affine) cs ≡ true → is_at_most most_affine z ≡ true → 2 * length cs + 12 < 256 → Calm rest
+      → Sees bytes ts ((coef_if skip letters true c k ++ terms_symbols letters skip (k + 1) cs z) ++ rest) → (n : ℕ) × Summed (form (nothing k ++ c ∷ cs) z) n rest (sum bytes sort inner None 0 ts)
+  choose_first true c cs again k z ts rest none f first smalls h l calm s =
+      let zero : c ≡ pos 0 = none_is c none in
+      let made = again (k + 1) z ts rest (omega arith) smalls h (omega arith) calm s in
+      let moved : nothing (k + 1) ++ cs ≡ nothing k ++ c ∷ cs = rw (zero, ← nothing_joined k 1, append_assoc) refl in
+      rw moved at made
+  choose_first false c cs again k z ts rest none f first smalls h l calm s =
+      let times = times_if (nat_eq (unsigned_abs c) 1) (unsigned_abs c) (iterator_name letters k) in
+      let terms = terms_symbols letters false (k + 1) cs z in
+      let flat : ((lead true (is_below c) ++ times) ++ terms) ++ rest ≡ lead true (is_below c) ++ (times ++ (terms ++ rest)) =
+      append_assoc (lead true (is_below c) ++ times) terms rest ∙ append_assoc (lead true (is_below c)) times (terms ++ rest) in
+      let made = coef_first (is_below c) c cs k z ts rest refl f first smalls h (omega arith) calm (s ∙ flat) in
+      let moved : nothing k ++ c ∷ nothing (length cs) ≡ (nothing k ++ c ∷ []) ++ nothing (length cs) = rw append_assoc refl in
+      let there : Summed (form ((nothing k ++ c ∷ []) ++ nothing (length cs)) (pos 0)) made.0 (terms ++ rest) (sum bytes sort inner None 0 ts) = rw moved at made.2 in
+      let joined : (nothing k ++ c ∷ []) ++ cs ≡ nothing k ++ c ∷ cs = append_assoc (nothing k) (c ∷ []) cs in
+      let n = nothing_long k in
+      let long : k + 1 ≡ length (nothing k ++ c ∷ []) = simp length-append (omega (arith, n)) in
+      let fits : list_all (is_at_most most_affine) (nothing k ++ c ∷ []) ≡ true = rw (list_all-append, nothing_small k, first) refl in
+      let small = made.1 in
+      let more = more_read cs (nothing k ++ c ∷ []) (k + 1) z made.0 rest (sum bytes sort inner None 0 ts) long (omega arith) fits smalls h (omega (arith, small)) calm there in
+      rw joined at more
+
+  first_read : (coefs : List ℤ) → FirstRead coefs
+  first_read [] k z ts rest f smalls h l calm s =
+      let made = constant_first (is_below z) z ts rest refl h calm s in
+      let e : levels ≡ k = omega arith in
+      let whole : nothing levels ≡ nothing k ++ [] = ap nothing e ∙ sym (append-nil (nothing k)) in
+      rw whole at made
+  first_read (c ∷ cs) k z ts rest f smalls h l calm s =
+      let parts = and_parts (is_at_most most_affine c) (list_all (is_at_most most_affine) cs) smalls in
+      choose_first (is_none c) c cs (first_read cs) k z ts rest refl f parts.0 parts.1 h (omega arith) calm s
+
+  pub form_given : (f : Form) (ts : List Token) (rest : List Symbol) → levels ≡ length f.coefs → levels ≤ 6 → IsSmall f → Calm rest → term_sign (front rest) ≡ None
+      → Sees bytes ts (form_symbols letters f.coefs f.constant ++ rest) → Given (Valued bytes f rest) (form_at bytes names levels left ts)
+  unfolding form_at
+  form_given f ts rest e l small calm ends s =
+      let made = first_read f.coefs 0 f.constant ts rest (omega arith) small.0 small.1 (omega arith) calm s in
+      let done : Given (AtPart (IsForm f) made.0 rest) (sum bytes sort inner None 0 ts) = sum_ends bytes sort inner None (IsForm f) made.0 made.0 rest (sum bytes sort inner None 0 ts) ends made.1 in
+      let whole : Given (λ x. IsForm f x.0 × Sees bytes x.1 rest) (expression bytes sort left ts) =
+      given_bind (AtPart (IsForm f) made.0 rest) (λ x. IsForm f x.0 × Sees bytes x.1 rest) (sum bytes sort inner None 0 ts) (λ x. Ok (x.0, x.2)) done (λ x g.
+      given_ok (λ x. IsForm f x.0 × Sees bytes x.1 rest) (x.0, x.2) (g.0, g.2)) in
+      given_bind (λ x. IsForm f x.0 × Sees bytes x.1 rest) (Valued bytes f rest) (expression bytes sort left ts) (λ p. Ok (p.0.form, p.1)) whole (λ p g.
+      given_ok (Valued bytes f rest) (p.0.form, p.1) g)
