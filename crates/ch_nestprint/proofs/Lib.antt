@@ -6,6 +6,7 @@ pub mod Further
 pub mod Laid
 pub mod Printing
 pub mod Reading
+pub mod RightsRead
 pub mod Seeing
 pub mod Spelled
 pub mod Spelling
