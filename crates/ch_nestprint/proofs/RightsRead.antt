@@ -215,3 +215,216 @@ module _ (bytes : List ℕ) (names : Names) (arrays : List ArrayDecl) (letters l
       rw (← whole) (factor_on bytes sort (unary bytes sort left) star (λ a. a ≡ x) (λ b. b ≡ y) (λ z. z ≡ e) (n + operands x) (n + operands x + operands y) (operands x) (operands e) more rest
       (product bytes sort (unary bytes sort left) star n ts) (omega (arith, one, count)) (omega (arith, one, count)) first
       (λ a is here us there. ry.operand left (star_after star (sort.iterates a) here) (n + operands x) us rest parts.1 (omega (arith, count)) bare there) joins)
+
+  -- right sides of each kind
+
+  atom : (e : Expr) → ((s : Standing) (left : ℕ) → nested e s left ≡ true) → ((s : Standing) → shown e s ≡ shown e Operand) → operands e ≡ 1 → OperandRead e → RightRead e
+  atom e nests same count o =
+      let f : FactorRead e = factor_from e (λ left h. nests Operand left) (same Factor) o in
+      record {
+        some = omega (arith, count);
+        operand = o;
+        factor = f;
+        term = term_from e (λ left h. nests Factor left) (same Term ∙ sym (same Factor)) f;
+      }
+
+  number_operand : (m : ℕ) (e : Expr) → e ≡ exprs.Number (pos m) → operands e ≡ 1 → shown e Operand ≡ Number m ∷ [] → OperandRead e
+  unfolding rights
+  number_operand m e is count same left star n ts rest h l bare sees =
+      let there : Sees bytes ts (Number m ∷ rest) = sees ∙ ap (λ (xs : List Symbol). xs ++ rest) same in
+      let look : seen bytes ts ≡ looks.Number m = seen_front bytes ts (Number m ∷ rest) there in
+      let made = ap (λ (x : Look). operand_right bytes names levels left (place bytes ts) (next_is bytes signs.LeftBracket (drop 1 ts)) x (find_name (text_at bytes ts) names) (drop 1 ts)) look in
+      rw count (operand_given bytes sort (λ x. x ≡ e) left star n ts rest (ap begins_operand look) (omega (arith, count))
+      ((exprs.Number (pos m), drop 1 ts), made, (sym is, behind_front bytes ts (Number m) rest there)))
+
+  named_operand : (text : List ℕ) (named : Named) (e : Expr) → find_name text names ≡ Some named → ((at : ℕ) (us : List Token) → plain_right at (Some named) us ≡ Ok (e, us)) → operands e ≡ 1
+      → shown e Operand ≡ Name text ∷ [] → OperandRead e
+  unfolding rights
+  named_operand text named e found reads count same left star n ts rest h l bare sees =
+      let there : Sees bytes ts (Name text ∷ rest) = sees ∙ ap (λ (xs : List Symbol). xs ++ rest) same in
+      let look : seen bytes ts ≡ looks.Name = seen_front bytes ts (Name text ∷ rest) there in
+      let behind = behind_front bytes ts (Name text) rest there in
+      let at = place bytes ts in
+      let bracket : next_is bytes signs.LeftBracket (drop 1 ts) ≡ false = ap (is_sign signs.LeftBracket) (seen_front bytes (drop 1 ts) rest behind) ∙ bare in
+      let name : find_name (text_at bytes ts) names ≡ Some named = ap (λ (t : List ℕ). find_name t names) (text_front bytes ts text rest there) ∙ found in
+      let made = ap (λ (x : Look). operand_right bytes names levels left at (next_is bytes signs.LeftBracket (drop 1 ts)) x (find_name (text_at bytes ts) names) (drop 1 ts)) look
+      ∙ ap (λ (b : Bool). named_right bytes names levels left at b (find_name (text_at bytes ts) names) (drop 1 ts)) bracket
+      ∙ ap (λ (o : Option Named). plain_right at o (drop 1 ts)) name ∙ reads at (drop 1 ts) in
+      rw count (operand_given bytes sort (λ x. x ≡ e) left star n ts rest (ap begins_operand look) (omega (arith, count)) ((e, drop 1 ts), made, (refl, behind)))
+
+  bracket_first : (subs : List Sub) (rest : List Symbol) → 1 ≤ length subs → is_sign signs.LeftBracket (front (flat_map (sub_symbols letters) subs ++ rest)) ≡ true
+  bracket_first [] rest h = absurd (omega arith)
+  bracket_first (s ∷ ss) rest h = refl
+
+  read_operand : (a : Access) (e : Expr) → e ≡ exprs.Read a → access_fits arrays levels a ≡ true → operands e ≡ 1 → shown e Operand ≡ access_symbols arrays letters a → OperandRead e
+  unfolding rights
+  read_operand a e is fits count same left star n ts rest h l bare sees =
+      let parts = and_parts (has_dimensions arrays a.array (length a.subs)) (list_all (sub_fits levels) a.subs) fits in
+      let text = array_name arrays a.array in
+      let subs : List Symbol = flat_map (sub_symbols letters) a.subs ++ rest in
+      let there : Sees bytes ts (Name text ∷ subs) = sees ∙ ap (λ (xs : List Symbol). xs ++ rest) same in
+      let look : seen bytes ts ≡ looks.Name = seen_front bytes ts (Name text ∷ subs) there in
+      let behind = behind_front bytes ts (Name text) subs there in
+      let at = place bytes ts in
+      let some = some_dimensions arrays a.array (length a.subs) shapes parts.0 in
+      let bracket : next_is bytes signs.LeftBracket (drop 1 ts) ≡ true = ap (is_sign signs.LeftBracket) (seen_front bytes (drop 1 ts) subs behind) ∙ bracket_first a.subs rest some in
+      let name : find_name (text_at bytes ts) names ≡ Some (Array a.array (length a.subs)) = ap (λ (t : List ℕ). find_name t names) (text_front bytes ts text subs there) ∙ known.placed a.array (length a.subs) parts.0 in
+      let made = ap (λ (x : Look). operand_right bytes names levels left at (next_is bytes signs.LeftBracket (drop 1 ts)) x (find_name (text_at bytes ts) names) (drop 1 ts)) look
+      ∙ ap (λ (b : Bool). named_right bytes names levels left at b (find_name (text_at bytes ts) names) (drop 1 ts)) bracket
+      ∙ ap (λ (o : Option Named). access_right bytes names levels left at o (drop 1 ts)) name in
+      let g : Given (λ r. (r.0 ≡ e) × Sees bytes r.1 rest) (access_at bytes names levels left a.array (length a.subs) (drop 1 ts) >>= λ x. Ok (exprs.Read x.0, x.1)) =
+      given_bind (Valued bytes a rest) (λ r. (r.0 ≡ e) × Sees bytes r.1 rest) (access_at bytes names levels left a.array (length a.subs) (drop 1 ts)) (λ x. Ok (exprs.Read x.0, x.1))
+      (access_given left a (drop 1 ts) rest parts.1 bare behind) (λ x f.
+      given_ok (λ r. (r.0 ≡ e) × Sees bytes r.1 rest) (exprs.Read x.0, x.1) (ap exprs.Read f.0 ∙ sym is, f.1)) in
+      let small : n < 256 = omega (arith, count) in
+      rw count (operand_given bytes sort (λ x. x ≡ e) left star n ts rest (ap begins_operand look) small (g.0, made ∙ g.1, g.2))
+
+  negated_operand : (x : Expr) → RightRead x → OperandRead (exprs.Neg x)
+  unfolding rights
+  negated_operand x rx left star n ts rest h l bare sees =
+      let level = left_open left (nested x Operand) (sym (ap (λ f. f Operand left) (fold_neg nested_step x)) ∙ h) in
+      let count : operands (exprs.Neg x) ≡ operands x = fold_neg operands_step x in
+      let there : Sees bytes ts (Mark signs.Minus ∷ (shown x Operand ++ rest)) = sees ∙ ap (λ (f : Standing → List Symbol). f Operand ++ rest) (fold_neg (right_step arrays letters) x) in
+      rw (level.1, count) (minus_read bytes sort (λ a. a ≡ x) (λ a. a ≡ exprs.Neg x) level.0 star n (n + operands x) ts (shown x Operand ++ rest) rest there
+      (λ us again. rx.operand level.0 star n us rest level.2 (omega (arith, count)) bare again)
+      (λ at a is. given_ok (λ z. z ≡ exprs.Neg x) (exprs.Neg a) (ap exprs.Neg is)))
+
+  sum_right : (e x y : Expr) (s : Sign) → term_sign (looks.Sign s) ≡ Some s → is_sign signs.LeftBracket (looks.Sign s) ≡ false → factor_sign (looks.Sign s) ≡ None
+      → ((at : ℕ) (a b : Expr) → a ≡ x → b ≡ y → Given (λ z. z ≡ e) (joined_right s at a b)) → operands e ≡ operands x + operands y
+      → ((st : Standing) (left : ℕ) → nested e st left ≡ within_left (inside (not (is_term st)) left) (λ l. nested x Term l && nested y Factor l))
+      → ((st : Standing) → shown e st ≡ joined_symbols (not (is_term st)) (shown x Term) s (shown y Factor)) → RightRead x → RightRead y → RightRead e
+  sum_right e x y s sign bracket starred joins count nests same rx ry =
+      let one = rx.some in
+      let t : TermRead e = sum_term e x y s sign joins count (λ left h. sym (nests Term left) ∙ h) (same Term) bracket starred rx ry in
+      let o : OperandRead e = operand_from e
+          (λ left h. let level = left_open left (λ l. nested x Term l && nested y Factor l) (sym (nests Operand left) ∙ h) in (level.0, level.1, nests Term level.0 ∙ level.2))
+          (λ rest. ap (λ (xs : List Symbol). xs ++ rest) (same Operand) ∙ parens_joined (shown x Term) s (shown y Factor) rest
+          ∙ ap (λ (xs : List Symbol). Mark signs.LeftParen ∷ (xs ++ (Mark signs.RightParen ∷ rest))) (sym (same Term))) t in
+      record {
+        some = omega (arith, one, count);
+        operand = o;
+        factor = factor_from e (λ left h. nests Operand left ∙ sym (nests Factor left) ∙ h) (same Factor ∙ sym (same Operand)) o;
+        term = t;
+      }
+
+  product_right : (e x y : Expr) → ((at : ℕ) (a b : Expr) → a ≡ x → b ≡ y → Given (λ z. z ≡ e) (joined_right signs.Star at a b)) → operands e ≡ operands x + operands y
+      → ((st : Standing) (left : ℕ) → nested e st left ≡ within_left (inside (is_operand st) left) (λ l. nested x Factor l && nested y Operand l))
+      → ((st : Standing) → shown e st ≡ joined_symbols (is_operand st) (shown x Factor) signs.Star (shown y Operand)) → RightRead x → RightRead y → RightRead e
+  product_right e x y joins count nests same rx ry =
+      let one = rx.some in
+      let f : FactorRead e = product_factor e x y joins count (λ left h. sym (nests Factor left) ∙ h) (same Factor) rx ry in
+      let t : TermRead e = term_from e (λ left h. nests Factor left ∙ sym (nests Term left) ∙ h) (same Term ∙ sym (same Factor)) f in
+      let o : OperandRead e = operand_from e
+          (λ left h. let level = left_open left (λ l. nested x Factor l && nested y Operand l) (sym (nests Operand left) ∙ h) in (level.0, level.1, nests Term level.0 ∙ level.2))
+          (λ rest. ap (λ (xs : List Symbol). xs ++ rest) (same Operand) ∙ parens_joined (shown x Factor) signs.Star (shown y Operand) rest
+          ∙ ap (λ (xs : List Symbol). Mark signs.LeftParen ∷ (xs ++ (Mark signs.RightParen ∷ rest))) (sym (same Term))) t in
+      record {
+        some = omega (arith, one, count);
+        operand = o;
+        factor = f;
+        term = t;
+      }
+
+  -- every right side
+
+  abbrev LetsKnown : List ℕ → Type 0
+  LetsKnown sizes = Each (LetKnown names letters) sizes
+
+  abbrev AnyRead : Expr → Type 0
+  AnyRead e = parts_fit arrays levels e ≡ true → LetsKnown (minus_in e) → RightRead e
+
+  number_read : (z : ℤ) → LetsKnown (minus_in (exprs.Number z)) → RightRead (exprs.Number z)
+  number_read (pos m) lets =
+      let e = exprs.Number (pos m) in
+      let same : (s : Standing) → shown e s ≡ Number m ∷ [] = λ s.
+          ap (λ f. f s) (fold_number (right_step arrays letters) (pos m)) ∙ ap (λ (b : Bool). constant_symbol b letters m ∷ []) (below_pos m) in
+      let count = fold_number operands_step (pos m) in
+      atom e (λ s left. ap (λ f. f s left) (fold_number nested_step (pos m))) (λ s. same s ∙ sym (same Operand)) count (number_operand m e refl count (same Operand))
+  number_read (negsuc m) lets =
+      let e = exprs.Number (negsuc m) in
+      let same : (s : Standing) → shown e s ≡ Name (minus_name letters (suc m)) ∷ [] = λ s.
+          ap (λ f. f s) (fold_number (right_step arrays letters) (negsuc m)) ∙ ap (λ (b : Bool). constant_symbol b letters (suc m) ∷ []) (below_negsuc m) in
+      let count = fold_number operands_step (negsuc m) in
+      let sizes : minus_in e ≡ suc m ∷ [] = fold_number minus_step (negsuc m) ∙ ap (λ (b : Bool). size_if b (suc m)) (below_negsuc m) in
+      let lets_one : LetsKnown (suc m ∷ []) = rw sizes at lets in
+      atom e (λ s left. ap (λ f. f s left) (fold_number nested_step (negsuc m))) (λ s. same s ∙ sym (same Operand)) count
+      (named_operand (minus_name letters (suc m)) (Let (negsuc m)) e lets_one.0 (λ at us. refl) count (same Operand))
+
+  iterator_read : (k : ℕ) → nat_lt k levels ≡ true → RightRead (exprs.Iter k)
+  iterator_read k h =
+      let e = exprs.Iter k in
+      let same : (s : Standing) → shown e s ≡ Name (iterator_name letters k) ∷ [] = λ s. ap (λ f. f s) (fold_iter (right_step arrays letters) k) in
+      let count = fold_iter operands_step k in
+      atom e (λ s left. ap (λ f. f s left) (fold_iter nested_step k)) (λ s. same s ∙ sym (same Operand)) count
+      (named_operand (iterator_name letters k) (Iterator k) e (known.iterators k (ltb-true k levels h)) (λ at us. refl) count (same Operand))
+
+  access_read : (a : Access) → access_fits arrays levels a ≡ true → RightRead (exprs.Read a)
+  access_read a h =
+      let e = exprs.Read a in
+      let same : (s : Standing) → shown e s ≡ access_symbols arrays letters a = λ s. ap (λ f. f s) (fold_read (right_step arrays letters) a) in
+      let count = fold_read operands_step a in
+      atom e (λ s left. ap (λ f. f s left) (fold_read nested_step a)) (λ s. same s ∙ sym (same Operand)) count (read_operand a e refl h count (same Operand))
+
+  negated_read : (x : Expr) → RightRead x → RightRead (exprs.Neg x)
+  negated_read x rx =
+      let e = exprs.Neg x in
+      let same : (s : Standing) → shown e s ≡ Mark signs.Minus ∷ shown x Operand = λ s. ap (λ f. f s) (fold_neg (right_step arrays letters) x) in
+      let nests : (s : Standing) (left : ℕ) → nested e s left ≡ within_left (inside true left) (nested x Operand) = λ s left. ap (λ f. f s left) (fold_neg nested_step x) in
+      let count = fold_neg operands_step x in
+      let one = rx.some in
+      let o = negated_operand x rx in
+      let f : FactorRead e = factor_from e (λ left h. nests Operand left ∙ sym (nests Factor left) ∙ h) (same Factor ∙ sym (same Operand)) o in
+      record {
+        some = omega (arith, one, count);
+        operand = o;
+        factor = f;
+        term = term_from e (λ left h. nests Factor left ∙ sym (nests Term left) ∙ h) (same Term ∙ sym (same Factor)) f;
+      }
+
+  same_both : (f : Expr → Expr → Expr) (a b x y : Expr) → a ≡ x → b ≡ y → f a b ≡ f x y
+  same_both f a b x y p q = cc
+
+  added_read : (x y : Expr) → RightRead x → RightRead y → RightRead (exprs.Add x y)
+  added_read x y rx ry = sum_right (exprs.Add x y) x y signs.Plus refl refl refl
+      (λ at a b p q. given_ok (λ z. z ≡ exprs.Add x y) (exprs.Add a b) (same_both exprs.Add a b x y p q)) (fold_add operands_step x y)
+      (λ s left. ap (λ f. f s left) (fold_add nested_step x y)) (λ s. ap (λ f. f s) (fold_add (right_step arrays letters) x y)) rx ry
+
+  subtracted_read : (x y : Expr) → RightRead x → RightRead y → RightRead (exprs.Sub x y)
+  subtracted_read x y rx ry = sum_right (exprs.Sub x y) x y signs.Minus refl refl refl
+      (λ at a b p q. given_ok (λ z. z ≡ exprs.Sub x y) (exprs.Sub a b) (same_both exprs.Sub a b x y p q)) (fold_sub operands_step x y)
+      (λ s left. ap (λ f. f s left) (fold_sub nested_step x y)) (λ s. ap (λ f. f s) (fold_sub (right_step arrays letters) x y)) rx ry
+
+  multiplied_read : (x y : Expr) → RightRead x → RightRead y → RightRead (exprs.Mul x y)
+  multiplied_read x y rx ry = product_right (exprs.Mul x y) x y
+      (λ at a b p q. given_ok (λ z. z ≡ exprs.Mul x y) (exprs.Mul a b) (same_both exprs.Mul a b x y p q)) (fold_mul operands_step x y)
+      (λ s left. ap (λ f. f s left) (fold_mul nested_step x y)) (λ s. ap (λ f. f s) (fold_mul (right_step arrays letters) x y)) rx ry
+
+  any_read : (e : Expr) → AnyRead e
+  any_read = by_exprs AnyRead
+      (λ z h lets. number_read z lets)
+      (λ k h lets. iterator_read k (sym (fold_iter (parts_fit_step arrays levels) k) ∙ h))
+      (λ a h lets. access_read a (sym (fold_read (parts_fit_step arrays levels) a) ∙ h))
+      (λ x again h lets. negated_read x (again (sym (fold_neg (parts_fit_step arrays levels) x) ∙ h) (rw (fold_neg minus_step x) at lets)))
+      (λ x y f g h lets.
+      let parts = and_parts (parts_fit arrays levels x) (parts_fit arrays levels y) (sym (fold_add (parts_fit_step arrays levels) x y) ∙ h) in
+      let both : LetsKnown (minus_in x ++ minus_in y) = rw (fold_add minus_step x y) at lets in
+      added_read x y (f parts.0 (each_left (LetKnown names letters) (minus_in x) (minus_in y) both)) (g parts.1 (each_right (LetKnown names letters) (minus_in x) (minus_in y) both)))
+      (λ x y f g h lets.
+      let parts = and_parts (parts_fit arrays levels x) (parts_fit arrays levels y) (sym (fold_sub (parts_fit_step arrays levels) x y) ∙ h) in
+      let both : LetsKnown (minus_in x ++ minus_in y) = rw (fold_sub minus_step x y) at lets in
+      subtracted_read x y (f parts.0 (each_left (LetKnown names letters) (minus_in x) (minus_in y) both)) (g parts.1 (each_right (LetKnown names letters) (minus_in x) (minus_in y) both)))
+      (λ x y f g h lets.
+      let parts = and_parts (parts_fit arrays levels x) (parts_fit arrays levels y) (sym (fold_mul (parts_fit_step arrays levels) x y) ∙ h) in
+      let both : LetsKnown (minus_in x ++ minus_in y) = rw (fold_mul minus_step x y) at lets in
+      multiplied_read x y (f parts.0 (each_left (LetKnown names letters) (minus_in x) (minus_in y) both)) (g parts.1 (each_right (LetKnown names letters) (minus_in x) (minus_in y) both)))
+
+  -- a whole right side
+  pub right_given : (e : Expr) (ts : List Token) (rest : List Symbol) → parts_fit arrays levels e ≡ true → operands e ≤ 256 → nested e Term 32 ≡ true → LetsKnown (minus_in e)
+      → Calm rest → term_sign (front rest) ≡ None → Sees bytes ts (right_symbols arrays letters e Term ++ rest) → Given (Valued bytes e rest) (right_at bytes names levels ts)
+  unfolding right_at
+  right_given e ts rest h l nests lets calm ends sees =
+      let reads : RightRead e = any_read e h lets in
+      let whole = sum_ends bytes sort (unary bytes sort 32) None (λ x. x ≡ e) (0 + operands e) (operands e) rest (sum bytes sort (unary bytes sort 32) None 0 ts) ends
+          (reads.term 32 None 0 ts rest nests (omega arith) calm sees) in
+      given_bind (AtExpr e (0 + operands e) rest) (Valued bytes e rest) (sum bytes sort (unary bytes sort 32) None 0 ts) (λ x. Ok (x.0, x.2)) whole (λ x g.
+      given_ok (Valued bytes e rest) (x.0, x.2) (g.0, g.2))
