@@ -97,7 +97,7 @@ form_tokens letters depth f h =
 
 -- the ends of loops
 
-abbrev EndFits : ℕ → Bool → Form → Bool
+abbrev pub EndFits : ℕ → Bool → Form → Bool
 EndFits depth raises f = coefs_fit depth f && is_at_most most_affine (raised_if raises f.constant)
 
 end_tokens : (letters depth : ℕ) (raises : Bool) (f : Form) → EndFits depth raises f ≡ true → AreTokens (end_symbols letters raises f)

@@ -3,7 +3,9 @@ pub mod Amounts
 pub mod Cases
 pub mod FormsRead
 pub mod Further
+pub mod HeadsRead
 pub mod Laid
+pub mod NamesRead
 pub mod Printing
 pub mod Reading
 pub mod RightsRead
