@@ -4,6 +4,7 @@ pub mod Cases
 pub mod FormsRead
 pub mod Further
 pub mod HeadsRead
+pub mod ItemsRead
 pub mod Laid
 pub mod NamesRead
 pub mod Printing

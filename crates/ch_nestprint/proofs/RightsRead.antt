@@ -50,11 +50,11 @@ pub record Known (names : Names) (arrays : List ArrayDecl) (letters levels : ℕ
 abbrev pub LetKnown : Names → ℕ → ℕ → Type 0
 LetKnown names letters size = find_name (minus_name letters size) names ≡ Some (Let (neg_ℤ (pos size)))
 
-each_left : {A : Type 0} (P : A → Type 0) (xs ys : List A) → Each P (xs ++ ys) → Each P xs
+pub each_left : {A : Type 0} (P : A → Type 0) (xs ys : List A) → Each P (xs ++ ys) → Each P xs
 each_left P [] ys h = tt
 each_left P (x ∷ xs) ys h = (h.0, each_left P xs ys h.1)
 
-each_right : {A : Type 0} (P : A → Type 0) (xs ys : List A) → Each P (xs ++ ys) → Each P ys
+pub each_right : {A : Type 0} (P : A → Type 0) (xs ys : List A) → Each P (xs ++ ys) → Each P ys
 each_right P [] ys h = h
 each_right P (x ∷ xs) ys h = each_right P xs ys h.1
 
