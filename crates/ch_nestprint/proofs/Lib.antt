@@ -1,11 +1,13 @@
 pub mod AllSymbols
 pub mod Amounts
+pub mod ArraysRead
 pub mod Cases
 pub mod FormsRead
 pub mod Further
 pub mod HeadsRead
 pub mod ItemsRead
 pub mod Laid
+pub mod LetsRead
 pub mod NamesRead
 pub mod Printing
 pub mod Reading
