@@ -275,7 +275,7 @@ module _ (bytes : List ℕ) where
       given_ok goal (one_more d (record { name = n.0; extents = es.0 }) x.0, x.1)
       (ap (λ (t : List ℕ). one_more d (decl_of t es.0) x.0) c.0 ∙ ap (λ (t : List ℕ). one_more d (decl_of a.name t) x.0) e.0 ∙ ap (one_more d a) g.0, g.1)))))
 
-  abbrev ArraysAfter : List ArrayDecl → List Fill → ℕ → List ℕ → List Symbol → Declared × List Token → Type 0
+  abbrev pub ArraysAfter : List ArrayDecl → List Fill → ℕ → List ℕ → List Symbol → Declared × List Token → Type 0
   ArraysAfter arrays fills letters sizes rest r = Placed r.0 arrays fills letters sizes × Sees bytes r.1 rest
 
   arrays_end : (letters : ℕ) (sizes : List ℕ) (done : List ArrayDecl) (fills : List Fill) (k : ℕ) (d : Declared) (ts : List Token) (rest : List Symbol) → Placed d done fills letters sizes → IsEnd words.Array rest

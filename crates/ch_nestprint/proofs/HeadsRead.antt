@@ -216,9 +216,11 @@ module _ (bytes : List ℕ) (names : Names) (letters levels : ℕ) (iterators : 
       let more : List Symbol = ends_symbols letters words.Min strict highs ++ rest in
       let few_forms = and_parts (nat_le 1 (length highs)) (nat_le (length highs) most_forms) ((and_parts (are_few highs) _ h).0) in
       let goal = Valued bytes (record { forms = highs; end = high_end boxes low highs }) rest in
-      let first : Given (Valued bytes strict more) (strict_if (seen bytes ts) (place bytes ts) (drop 1 ts)) =
-      ((strict, drop 1 ts), ap (λ (l : Look). strict_if l (place bytes ts) (drop 1 ts)) (seen_front bytes ts (Mark (relation strict) ∷ more) sees) ∙ strict_front strict (place bytes ts) (drop 1 ts),
-      (refl, behind_front bytes ts (Mark (relation strict)) more sees)) in
+      let first : Given (Valued bytes strict more) (strict_if (seen bytes ts) (place bytes ts) (drop 1 ts)) = (
+        (strict, drop 1 ts),
+        ap (λ (l : Look). strict_if l (place bytes ts) (drop 1 ts)) (seen_front bytes ts (Mark (relation strict) ∷ more) sees) ∙ strict_front strict (place bytes ts) (drop 1 ts),
+        (refl, behind_front bytes ts (Mark (relation strict)) more sees),
+      ) in
       given_bind (Valued bytes strict more) goal (strict_if (seen bytes ts) (place bytes ts) (drop 1 ts)) _ first (λ s a.
       let read : Given (Valued bytes (map (raised_form strict) highs) rest) (ends_at bytes words.Min names (length boxes) s.1) =
       rw (← e) (ends_given words.Min strict highs s.1 rest (highs_end levels highs h) (leb-true 1 (length highs) few_forms.0) (leb-true (length highs) most_forms few_forms.1) calm ends a.1) in

@@ -116,7 +116,7 @@ module _ (bytes : List ℕ) (letters : ℕ) where
       given_bind (Passed bytes rest) goal (sign_at bytes P1 signs.Semicolon z.1) _ (sign_given bytes P1 signs.Semicolon z.1 rest d.1) (λ vs e.
       given_ok goal (names ++ (n.0, Let z.0) ∷ [], vs) (ap (λ (x : List ℕ). names ++ (x, Let z.0) ∷ []) b.0 ∙ ap (λ (x : ℤ). names ++ (name, Let x) ∷ []) d.0, e))))))
 
-  abbrev LetsAfter : List ℕ → List Symbol → Names × List Token → Type 0
+  abbrev pub LetsAfter : List ℕ → List Symbol → Names × List Token → Type 0
   LetsAfter sizes rest r = LetNames r.0 letters sizes × Sees bytes r.1 rest
 
   abbrev LetsRead : List ℕ → Type 0

@@ -10,6 +10,7 @@ pub mod Laid
 pub mod LetsRead
 pub mod NamesRead
 pub mod Printing
+pub mod ProgramRead
 pub mod Reading
 pub mod RightsRead
 pub mod Seeing

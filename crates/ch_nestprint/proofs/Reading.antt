@@ -79,7 +79,7 @@ module _ {X : Type 0} (bytes : List ℕ) (sort : Sort X) where
     factor_on P Q R m n used all more rest r few grows (zero, x, left, is, at) reads joins = absurd (omega arith)
     factor_on P Q R m n used all more rest r few grows (suc k, x, left, is, at) reads joins =
         let next = part_read P Q R m n signs.Star more rest (λ y here. inner (star_after star (sort.iterates y) here)) x at
-            reads joins in
+        reads joins in
         (k, next.0, omega arith, is ∙ chain_step (λ y. factor_sign (seen bytes y.2)) (factor bytes sort inner star) k x next.0 signs.Star (ap factor_sign (seen_front bytes x.2 (Mark signs.Star ∷ more) at.2)) next.1, next.2)
 
     pub term_on : (P Q R : X → Type 0) (m n used all : ℕ) (s : Sign) (more rest : List Symbol) (r : Counted X) → used < 256 → used < all → term_sign (looks.Sign s) ≡ Some s

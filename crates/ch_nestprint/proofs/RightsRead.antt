@@ -297,9 +297,9 @@ module _ (bytes : List ℕ) (names : Names) (arrays : List ArrayDecl) (letters l
       let one = rx.some in
       let t : TermRead e = sum_term e x y s sign joins count (λ left h. sym (nests Term left) ∙ h) (same Term) bracket starred rx ry in
       let o : OperandRead e = operand_from e
-          (λ left h. let level = left_open left (λ l. nested x Term l && nested y Factor l) (sym (nests Operand left) ∙ h) in (level.0, level.1, nests Term level.0 ∙ level.2))
-          (λ rest. ap (λ (xs : List Symbol). xs ++ rest) (same Operand) ∙ parens_joined (shown x Term) s (shown y Factor) rest
-          ∙ ap (λ (xs : List Symbol). Mark signs.LeftParen ∷ (xs ++ (Mark signs.RightParen ∷ rest))) (sym (same Term))) t in
+      (λ left h. let level = left_open left (λ l. nested x Term l && nested y Factor l) (sym (nests Operand left) ∙ h) in (level.0, level.1, nests Term level.0 ∙ level.2))
+      (λ rest. ap (λ (xs : List Symbol). xs ++ rest) (same Operand) ∙ parens_joined (shown x Term) s (shown y Factor) rest
+      ∙ ap (λ (xs : List Symbol). Mark signs.LeftParen ∷ (xs ++ (Mark signs.RightParen ∷ rest))) (sym (same Term))) t in
       record {
         some = omega (arith, one, count);
         operand = o;
@@ -315,9 +315,9 @@ module _ (bytes : List ℕ) (names : Names) (arrays : List ArrayDecl) (letters l
       let f : FactorRead e = product_factor e x y joins count (λ left h. sym (nests Factor left) ∙ h) (same Factor) rx ry in
       let t : TermRead e = term_from e (λ left h. nests Factor left ∙ sym (nests Term left) ∙ h) (same Term ∙ sym (same Factor)) f in
       let o : OperandRead e = operand_from e
-          (λ left h. let level = left_open left (λ l. nested x Factor l && nested y Operand l) (sym (nests Operand left) ∙ h) in (level.0, level.1, nests Term level.0 ∙ level.2))
-          (λ rest. ap (λ (xs : List Symbol). xs ++ rest) (same Operand) ∙ parens_joined (shown x Factor) signs.Star (shown y Operand) rest
-          ∙ ap (λ (xs : List Symbol). Mark signs.LeftParen ∷ (xs ++ (Mark signs.RightParen ∷ rest))) (sym (same Term))) t in
+      (λ left h. let level = left_open left (λ l. nested x Factor l && nested y Operand l) (sym (nests Operand left) ∙ h) in (level.0, level.1, nests Term level.0 ∙ level.2))
+      (λ rest. ap (λ (xs : List Symbol). xs ++ rest) (same Operand) ∙ parens_joined (shown x Factor) signs.Star (shown y Operand) rest
+      ∙ ap (λ (xs : List Symbol). Mark signs.LeftParen ∷ (xs ++ (Mark signs.RightParen ∷ rest))) (sym (same Term))) t in
       record {
         some = omega (arith, one, count);
         operand = o;
@@ -337,13 +337,13 @@ module _ (bytes : List ℕ) (names : Names) (arrays : List ArrayDecl) (letters l
   number_read (pos m) lets =
       let e = exprs.Number (pos m) in
       let same : (s : Standing) → shown e s ≡ Number m ∷ [] = λ s.
-          ap (λ f. f s) (fold_number (right_step arrays letters) (pos m)) ∙ ap (λ (b : Bool). constant_symbol b letters m ∷ []) (below_pos m) in
+      ap (λ f. f s) (fold_number (right_step arrays letters) (pos m)) ∙ ap (λ (b : Bool). constant_symbol b letters m ∷ []) (below_pos m) in
       let count = fold_number operands_step (pos m) in
       atom e (λ s left. ap (λ f. f s left) (fold_number nested_step (pos m))) (λ s. same s ∙ sym (same Operand)) count (number_operand m e refl count (same Operand))
   number_read (negsuc m) lets =
       let e = exprs.Number (negsuc m) in
       let same : (s : Standing) → shown e s ≡ Name (minus_name letters (suc m)) ∷ [] = λ s.
-          ap (λ f. f s) (fold_number (right_step arrays letters) (negsuc m)) ∙ ap (λ (b : Bool). constant_symbol b letters (suc m) ∷ []) (below_negsuc m) in
+      ap (λ f. f s) (fold_number (right_step arrays letters) (negsuc m)) ∙ ap (λ (b : Bool). constant_symbol b letters (suc m) ∷ []) (below_negsuc m) in
       let count = fold_number operands_step (negsuc m) in
       let sizes : minus_in e ≡ suc m ∷ [] = fold_number minus_step (negsuc m) ∙ ap (λ (b : Bool). size_if b (suc m)) (below_negsuc m) in
       let lets_one : LetsKnown (suc m ∷ []) = rw sizes at lets in
@@ -425,6 +425,6 @@ module _ (bytes : List ℕ) (names : Names) (arrays : List ArrayDecl) (letters l
   right_given e ts rest h l nests lets calm ends sees =
       let reads : RightRead e = any_read e h lets in
       let whole = sum_ends bytes sort (unary bytes sort 32) None (λ x. x ≡ e) (0 + operands e) (operands e) rest (sum bytes sort (unary bytes sort 32) None 0 ts) ends
-          (reads.term 32 None 0 ts rest nests (omega arith) calm sees) in
+      (reads.term 32 None 0 ts rest nests (omega arith) calm sees) in
       given_bind (AtExpr e (0 + operands e) rest) (Valued bytes e rest) (sum bytes sort (unary bytes sort 32) None 0 ts) (λ x. Ok (x.0, x.2)) whole (λ x g.
       given_ok (Valued bytes e rest) (x.0, x.2) (g.0, g.2))

@@ -1,5 +1,6 @@
 ghost use Rattle.std.specs.Prelude.{◌≡◌, ◌<◌, suc, [], ◌∷◌, ◌++◌, IfOk, OnOk};
 ghost use Rattle.ch_nestprint.specs.Minus.{minus_in_items};
+ghost use Rattle.ch_nestprint.specs.Back.{IsReadAs};
 ghost use Rattle.ch_nestprint.specs.Cuts.{Shows};
 ghost use Rattle.ch_nestprint.specs.Printable.{IsPrintable};
 ghost use Rattle.ch_nestprint.specs.Printed.{assign_symbols, body_symbols, item_symbols, items_symbols, lets_symbols, parts_symbols, program_symbols, program_text};
@@ -161,7 +162,7 @@ fn printed(alloc: Global, name: &Text, nest: &Nest, fills: &[Fill]) -> Result<Te
 ///
 /// Iterators are named by their level, and a negative number of a right side by a let of its own. There is one fill for each
 /// array.
-#[tactic(auto, using(crate::proofs::Printing::shows))]
+#[tactic(auto, using(crate::proofs::Printing::shows, crate::proofs::Printing::reads))]
 pub fn print_program(
     alloc: Global,
     name: &Text,
@@ -170,6 +171,7 @@ pub fn print_program(
 ) -> Result<Text, AllocError>
     ensures text { IfOk result (λ text. text ≡ program_text name.now nest.now fills.now) }
     ensures tokens { IsPrintable name.now nest.now fills.now → IfOk result (λ text. Shows text (program_symbols name.now nest.now fills.now)) }
+    ensures reads { IsPrintable name.now nest.now fills.now → IfOk result (λ text. IsReadAs text name.now nest.now fills.now) }
 {
     printed(alloc, name, nest, fills)
 }
