@@ -1,23 +1,19 @@
 -- Forms that were read have one coefficient for each iterator, and keep the limit of affine text.
-use Rattle.std.proofs.Common.{◌≡◌, ℕ, zero, suc, ◌+◌, ◌≤◌, ℤ, pos, negsuc, Bool, true, false, ◌||◌, List, length, drop, Option, Some, None, Result, Ok, Err, refl, sym, ◌∙◌, arith}
+use Rattle.std.proofs.Common.{◌≡◌, ℕ, ℤ, pos, negsuc, Bool, true, false, ◌||◌, List, length, drop, Option, Some, None, refl, ◌∙◌, arith}
 use Rattle.std.specs.Bool.{IsTrue}
 use Rattle.ch_affine.specs.Combined.{combined, first_wide, is_wide}
 use Rattle.ch_affine.specs.Form.{Form}
-use Rattle.ch_lex.specs.declared.error.Code2.TheVariants.{P2, P4}
-use Rattle.ch_lex.specs.declared.error.ParseError.{ParseError}
 use Rattle.ch_lex.specs.declared.token.Sign.{Sign}
 use Rattle.ch_lex.specs.declared.token.Sign.TheVariants as signs
 use Rattle.ch_lex.specs.declared.token.Token.{Token}
 use Rattle.ch_nest.specs.Shape.{form_fits}
-use Rattle.ch_nest.specs.declared.exprs.Standing.{Standing}
 use Rattle.ch_nestparse.specs.declared.ahead.Look.{Look}
 use Rattle.ch_nestparse.specs.declared.ahead.Look.TheVariants as looks
 use Rattle.ch_nestparse.specs.declared.part.Part.{Part}
 use Rattle.ch_nestparse.specs.declared.scope.Named.{Named}
 use Rattle.ch_nestparse.specs.declared.scope.Named.TheVariants.{Let, Array, Iterator}
-use Rattle.ch_nestparse.specs.Expressions.{expression, factor_sign, term_sign}
 use Rattle.ch_nestparse.specs.Forms.{access_part, constant_form, form_at, iterator_form, iterator_part, joined_parts, limit, named_part, narrow, narrow_if, negated, number_part, number_part_if, operand_part, parts, plain_part, times}
-use Rattle.ch_nestparse.specs.Read.{◌>>=◌, Names, find_name, next_is, place, seen, text_at}
+use Rattle.ch_nestparse.specs.Read.{Names, find_name, next_is, place, seen, text_at}
 use Rattle.ch_nestparse.proofs.Narrow.{combined_length, constant_form_fits, fits_length, iterator_form_fits, narrow_fits}
 use Rattle.ch_nestparse.proofs.Posts.{Post, Shrinks, drop_shrinks, post_bind, post_err, post_ok}
 use Rattle.ch_nestparse.proofs.Spelled.{expression_post}

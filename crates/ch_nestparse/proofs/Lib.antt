@@ -1,9 +1,14 @@
+pub mod Apart
 pub mod Ascii
 pub mod Cells
 pub mod Chains
+pub mod Cuts
+pub mod DeclaredFit
 pub mod Fitting
 pub mod FormsFit
 pub mod Found
+pub mod HeadsFit
+pub mod ItemsFit
 pub mod Meant
 pub mod Narrow
 pub mod Nesting
@@ -11,6 +16,8 @@ pub mod Nested
 pub mod Places
 pub mod Posts
 pub mod RightsFit
+pub mod SectionsFit
 pub mod Spelled
+pub mod Spellings
 pub mod Repeats
 pub mod Sums

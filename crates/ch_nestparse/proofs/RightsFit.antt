@@ -1,12 +1,10 @@
 -- Accesses and right sides that were read fit below the loops around.
-use Rattle.std.proofs.Common.{◌≡◌, ℕ, zero, suc, ◌+◌, ◌≤◌, ℤ, pos, Bool, true, false, not, ◌&&◌, nat_le, nat_eq, nat_lt, List, [], ◌∷◌, ◌++◌, length, drop, length-append, Option, Some, None, Result, Ok, Err, refl, sym, ap, ◌∙◌, subst, arith}
+use Rattle.std.proofs.Common.{◌≡◌, ℕ, zero, suc, ◌+◌, ◌≤◌, ℤ, pos, Bool, true, false, not, ◌&&◌, nat_le, List, [], ◌∷◌, ◌++◌, length, drop, length-append, Option, Some, None, Ok, refl, ap, ◌∙◌, subst, arith}
 use Rattle.std.specs.Bool.{IsTrue}
 use Rattle.std.specs.List.{list_all}
-use Rattle.std.proofs.lemmas.Bool.{and_parts, and_from, false≢true, le-leb}
-use Rattle.std.proofs.lemmas.Bool.Decides.{nat_tests}
+use Rattle.std.proofs.lemmas.Bool.{and_from, false≢true, le-leb}
 use Rattle.std.proofs.lemmas.List.Folds.{list_all-append}
-use Rattle.ch_lex.specs.declared.error.Code2.TheVariants.{P1, P2}
-use Rattle.ch_lex.specs.declared.error.ParseError.{ParseError}
+use Rattle.ch_lex.specs.declared.error.Code2.TheVariants.{P1}
 use Rattle.ch_lex.specs.declared.token.Sign.{Sign}
 use Rattle.ch_lex.specs.declared.token.Sign.TheVariants as signs
 use Rattle.ch_lex.specs.declared.token.Token.{Token}
@@ -23,13 +21,12 @@ use Rattle.ch_nestparse.specs.declared.ahead.Look.{Look}
 use Rattle.ch_nestparse.specs.declared.ahead.Look.TheVariants as looks
 use Rattle.ch_nestparse.specs.declared.scope.Named.{Named}
 use Rattle.ch_nestparse.specs.declared.scope.Named.TheVariants.{Let, Array, Iterator}
-use Rattle.ch_nestparse.specs.Expressions.{expression, factor_sign, term_sign}
-use Rattle.ch_nestparse.specs.Forms.{form_at}
-use Rattle.ch_nestparse.specs.Read.{◌>>=◌, Names, Read, find_name, next_is, place, repeated, seen, sign_at, text_at}
+use Rattle.ch_nestparse.specs.Expressions.{factor_sign, term_sign}
+use Rattle.ch_nestparse.specs.Read.{Names, Read, find_name, next_is, place, repeated, seen, text_at}
 use Rattle.ch_nestparse.specs.Rights.{access_at, access_right, always, joined_right, named_right, operand_right, plain_right, right_at, rights, sub_at}
 use Rattle.ch_nestparse.proofs.FormsFit.{form_post}
 use Rattle.ch_nestparse.proofs.Meant.{AllMeant, IsMeant}
-use Rattle.ch_nestparse.proofs.Nesting.{deeper, factored, fold_add, fold_iter, fold_mul, fold_neg, fold_number, fold_read, fold_sub, inside_suc, raised, summed}
+use Rattle.ch_nestparse.proofs.Nesting.{factored, fold_add, fold_iter, fold_mul, fold_neg, fold_number, fold_read, fold_sub, inside_suc, raised, summed}
 use Rattle.ch_nestparse.proofs.Posts.{Post, Shrinks, drop_shrinks, pos_number, post_bind, post_err, post_guarded, post_ok, seen_number, sign_post}
 use Rattle.ch_nestparse.proofs.Spelled.{expression_post}
 

@@ -1,5 +1,5 @@
 -- What is known of an expression that was read, by what its parts keep: how deep it nests and how many operands it has.
-use Rattle.std.proofs.Common.{◌≡◌, ℕ, zero, suc, ◌+◌, ◌-◌, ◌≤◌, Bool, true, false, ◌&&◌, nat_lt, List, length, drop, Option, Some, None, Result, Ok, Err, refl, sym, subst, arith}
+use Rattle.std.proofs.Common.{◌≡◌, ℕ, zero, suc, ◌+◌, ◌≤◌, ◌&&◌, nat_lt, List, drop, Option, Some, None, Result, Ok, refl, arith}
 use Rattle.std.proofs.lemmas.Bool.{and_parts, ltb-true}
 use Rattle.ch_lex.specs.declared.error.Code2.TheVariants.{P1}
 use Rattle.ch_lex.specs.declared.error.ParseError.{ParseError}
@@ -10,11 +10,10 @@ use Rattle.ch_nest.specs.Limits.{most_operands}
 use Rattle.ch_nest.specs.declared.exprs.Standing.{Standing}
 use Rattle.ch_nest.specs.declared.exprs.Standing.TheVariants.{Term, Factor, Operand}
 use Rattle.ch_nestparse.specs.declared.ahead.Look.{Look}
-use Rattle.ch_nestparse.specs.declared.ahead.Look.TheVariants as looks
 use Rattle.ch_nestparse.specs.declared.ahead.Opening.{Opening}
 use Rattle.ch_nestparse.specs.declared.ahead.Opening.TheVariants as openings
 use Rattle.ch_nestparse.specs.Expressions.{Counted, Reader, Sort, begins_operand, behind, behind_minus, between_parens, chain, counted_operand, expression, factor, factor_sign, opened, opening, product, star_after, sum, term, term_sign, unary}
-use Rattle.ch_nestparse.specs.Read.{◌>>=◌, place, seen, sign_at}
+use Rattle.ch_nestparse.specs.Read.{◌>>=◌, place, seen}
 use Rattle.ch_nestparse.proofs.Posts.{Post, Shrinks, drop_shrinks, post_bind, post_guarded, post_ok, sign_post}
 
 post_behind : {X : Type 0} {P : X → Type 0} (o : Option Sign) (none : Result X ParseError) (some : Sign → Result X ParseError) → Post P none → ((s : Sign) → o ≡ Some s → Post P (some s)) → Post P (behind o none some)

@@ -1,12 +1,12 @@
 -- Factors and terms, one after another.
-use Rattle.std.proofs.Common.{◌≡◌, ℕ, zero, suc, ◌+◌, ◌-◌, ◌<◌, ◌≤◌, ◌≢◌, List, drop, Option, Some, None, Result, Ok, Err, refl, sym, ap, ◌∙◌, arith}
+use Rattle.std.proofs.Common.{◌≡◌, ℕ, zero, suc, ◌+◌, ◌-◌, ◌<◌, ◌≤◌, ◌≢◌, List, Option, Some, None, Ok, refl, arith}
 use Rattle.ch_lex.specs.declared.token.Sign.{Sign}
 use Rattle.ch_lex.specs.declared.token.Token.{Token}
 use Rattle.ch_lex.specs.declared.error.ParseError.{ParseError}
 use Rattle.ch_lex.specs.declared.error.ParseError.TheVariants.{Memory, Refused}
 use Rattle.ch_nestparse.specs.Gives.{Fails}
-use Rattle.ch_nestparse.specs.Read.{◌>>=◌, place, seen}
-use Rattle.ch_nestparse.specs.Expressions.{Counted, Sort, Reader, chain, factor_sign, term_sign, factor, term, opened, opening, behind_minus, between_parens, counted_operand, unary, product, sum, more_factors, more_terms}
+use Rattle.ch_nestparse.specs.Read.{seen}
+use Rattle.ch_nestparse.specs.Expressions.{Counted, Sort, Reader, factor_sign, term_sign, factor, term, opened, opening, behind_minus, between_parens, counted_operand, unary, product, sum, more_factors, more_terms}
 use Rattle.ch_nestparse.proofs.Chains.{chain_more, chain_fail, chain_stop, chain_end}
 
 module _ {X : Type 0} (bytes : List ℕ) (sort : Sort X) (unary : Reader X) (star : Option ℕ) where

@@ -1,6 +1,6 @@
 -- Expressions: sums of products of operands, with `-` and parentheses around them. The same grammar serves affine forms and
 -- right sides, which differ in what their operands are and what is made of them.
-use Rattle.std.specs.Prelude.{ℕ, zero, suc, ◌+◌, Bool, true, false, ◌&&◌, nat_lt, List, drop, Option, Some, None, Result, Ok, Err}
+use Rattle.std.specs.Prelude.{ℕ, zero, suc, ◌+◌, Bool, true, false, ◌&&◌, nat_lt, List, drop, Option, Some, None, Result, Ok}
 use Rattle.ch_lex.specs.declared.error.Code2.TheVariants.{P1}
 use Rattle.ch_lex.specs.declared.error.ParseError.{ParseError}
 use Rattle.ch_lex.specs.declared.token.Sign.{Sign}

@@ -1,5 +1,5 @@
 -- Loops and assignments.
-use Rattle.std.specs.Prelude.{ℕ, zero, suc, ◌+◌, Bool, true, false, not, nat_lt, List, [], ◌∷◌, ◌++◌, length, drop, Option, Some, Result, Ok}
+use Rattle.std.specs.Prelude.{ℕ, zero, suc, ◌+◌, Bool, not, nat_lt, List, [], ◌∷◌, ◌++◌, length, drop, Option, Some, Result, Ok}
 use Rattle.ch_affine.specs.declared.system.Range.{Range}
 use Rattle.ch_lex.specs.declared.error.Code2.TheVariants.{P1, P2, P5, P6}
 use Rattle.ch_lex.specs.declared.error.ParseError.{ParseError}

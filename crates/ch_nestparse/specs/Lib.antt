@@ -1,5 +1,6 @@
 pub mod Accesses
 pub mod Declarations
+pub mod Distinct
 pub mod Entries
 pub mod Expressions
 pub mod Forms
@@ -9,3 +10,4 @@ pub mod Items
 pub mod Read
 pub mod Rights
 pub mod Sections
+pub mod Spelling

@@ -1,5 +1,5 @@
 -- Accesses and right sides.
-use Rattle.std.specs.Prelude.{ℕ, ℤ, pos, Bool, true, false, not, List, [], ◌∷◌, ◌++◌, drop, Option, Some, Result, Ok}
+use Rattle.std.specs.Prelude.{ℕ, pos, Bool, true, false, not, List, [], ◌∷◌, ◌++◌, drop, Option, Some, Result, Ok}
 use Rattle.ch_lex.specs.declared.error.Code2.TheVariants.{P1, P2}
 use Rattle.ch_lex.specs.declared.error.ParseError.{ParseError}
 use Rattle.ch_lex.specs.declared.token.Sign.{Sign}

@@ -26,4 +26,4 @@ pub use declarations::Declared;
 pub use heads::Ends;
 pub use part::Part;
 pub use program::{ParsedProgram, parse_program};
-pub use scope::{Named, Names};
+pub use scope::{Named, Names, fresh};

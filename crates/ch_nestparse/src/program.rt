@@ -1,7 +1,11 @@
-ghost use Rattle.std.specs.Prelude.{◌≡◌, ◌<◌, ◌≤◌, ◌^◌, ◌-◌, length, IfOk, IsTrue, take};
+ghost use Rattle.std.specs.Prelude.{◌≡◌, ◌<◌, ◌≤◌, ◌^◌, ◌+◌, ◌-◌, length, true, IfOk, IsTrue, take};
 ghost use Rattle.std.specs.Char.{is_ascii};
 ghost use Rattle.std.specs.List.{list_all};
+ghost use Rattle.ch_lex.specs.Cut.{IsCut};
+ghost use Rattle.ch_nest.specs.Shape.{is_nest};
+ghost use Rattle.ch_nestparse.specs.Distinct.{are_distinct};
 ghost use Rattle.ch_nestparse.specs.Gives.{Gives};
+ghost use Rattle.ch_nestparse.specs.Spelling.{is_fill, is_name, is_named};
 ghost use Rattle.ch_nestparse.specs.Sections.{before, program_at, section_at};
 
 use crate::accesses::accesses;
@@ -45,9 +49,9 @@ fn before<'a>(rest: &[Token], tokens: &'a [Token]) -> &'a [Token]
     tokens.split_at(count).0
 }
 
-/// A program section.
+/// A program section, as its grammar says.
 #[tactic(auto, unfolding(crate::specs::Sections::section_at))]
-fn section<'a>(
+fn read_section<'a>(
     alloc: Global,
     bytes: &[u8],
     tokens: &'a [Token],
@@ -82,7 +86,30 @@ fn section<'a>(
     Ok((parts, rest))
 }
 
+/// A program section, whose nest is well formed.
+#[tactic(auto, using(crate::proofs::SectionsFit::section_nest, crate::proofs::SectionsFit::section_fills, crate::proofs::SectionsFit::section_distinct, crate::proofs::SectionsFit::section_taken))]
+fn section<'a>(
+    alloc: Global,
+    bytes: &[u8],
+    tokens: &'a [Token],
+) -> Result<(Parts, &'a [Token]), ParseError>
+    requires short { length bytes.now < 2 ^ 32 }
+    requires ascii { IsTrue (list_all is_ascii bytes.now) }
+    ensures exact { Gives (λ r. (record { name = r.0.name; nest = record { arrays = r.0.arrays; items = r.0.items }; fills = r.0.fills; accesses = r.0.accesses }, r.1.now)) result (section_at bytes.now tokens.now) }
+    ensures nest { IfOk result (λ r. is_nest (record { arrays = r.0.arrays; items = r.0.items }) ≡ true) }
+    ensures fills { IfOk result (λ r. length r.0.fills ≡ length r.0.arrays) }
+    ensures distinct { IfOk result (λ r. IsTrue (are_distinct r.0.arrays)) }
+    ensures taken { IfOk result (λ r. length r.1.now + 1 ≤ length tokens.now) }
+{
+    let (parts, rest) = read_section(alloc, bytes, tokens)?;
+    Ok((parts, rest))
+}
+
 /// The program section whose first token, `program`, is token `from`: its program, or its first refusal.
+///
+/// The tokens are those of the bytes. Then each array has a fill whose numbers have magnitude at most 2^31, the names are
+/// names of the language, no two arrays have one name, and `next` is behind `from`.
+#[tactic(auto, using(crate::proofs::Ascii::cut_ascii, crate::proofs::Cuts::few_tokens, crate::proofs::Spellings::spelled_arrays, crate::proofs::Spellings::spelled_fills))]
 pub fn parse_program(
     alloc: Global,
     tokens: &[Token],
@@ -90,14 +117,20 @@ pub fn parse_program(
     from: u32,
 ) -> Result<ParsedProgram, ParseError>
     requires short { length bytes.now < 2 ^ 32 }
-    requires few { length tokens.now < 2 ^ 32 }
-    requires ascii { IsTrue (list_all is_ascii bytes.now) }
+    requires cut { IsCut bytes.now 0 tokens.now }
     requires from { from ≤ length tokens.now }
     ensures exact { Gives (λ p. p) result (program_at bytes.now tokens.now from) }
+    ensures fills { IfOk result (λ p. length p.fills ≡ length p.nest.arrays) }
+    ensures distinct { IfOk result (λ p. IsTrue (are_distinct p.nest.arrays)) }
+    ensures name { IfOk result (λ p. IsTrue (is_name p.name)) }
+    ensures array_names { IfOk result (λ p. IsTrue (list_all is_named p.nest.arrays)) }
+    ensures fill_numbers { IfOk result (λ p. IsTrue (list_all is_fill p.fills)) }
+    ensures behind { IfOk result (λ p. from < p.next) }
+    ensures within { IfOk result (λ p. p.next ≤ length tokens.now) }
 {
     let first = tokens.split_at(from as usize).1;
     let (parts, rest) = section(alloc, bytes, first)?;
-    let next = tokens.len().saturating_sub(rest.len()) as u32;
+    let next = (tokens.len() - rest.len()) as u32;
     let Parts {
         name,
         arrays,
@@ -105,14 +138,14 @@ pub fn parse_program(
         fills,
         accesses,
     } = parts;
-    match Nest::new(arrays, items) {
-        None => Err(ParseError::Memory),
-        Some(nest) => Ok(ParsedProgram {
-            name,
-            nest,
-            fills,
-            accesses,
-            next,
-        }),
-    }
+    let Some(nest) = Nest::new(arrays, items) else {
+        unreachable!()
+    };
+    Ok(ParsedProgram {
+        name,
+        nest,
+        fills,
+        accesses,
+        next,
+    })
 }

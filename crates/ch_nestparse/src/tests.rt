@@ -8,6 +8,9 @@ use std::test::Fail;
 
 /// What the section is read as with which the text begins.
 fn parsed(alloc: Global, text: &[u8]) -> Result<ParsedProgram, ParseError> {
+    if text.len() > 4096 {
+        return Err(ParseError::Memory);
+    }
     let found = tokens(alloc, text)?;
     parse_program(alloc, found.as_slice(), text, 0)
 }
