@@ -27,14 +27,15 @@ use Rattle.ch_nest.specs.declared.nest.Fill.{Fill}
 use Rattle.ch_nest.specs.declared.nest.Item.{Item}
 use Rattle.ch_nest.specs.declared.nest.Item.TheVariants.{Loop, Assign}
 use Rattle.ch_nest.specs.declared.nest.Sub.{Sub}
+use Rattle.ch_nestparse.specs.Spelling.{is_fill, is_name, is_named}
 use Rattle.ch_nestparse.proofs.Nesting.{fold_add, fold_iter, fold_mul, fold_neg, fold_number, fold_read, fold_sub}
 use Rattle.ch_nestprint.specs.declared.symbol.Symbol.{Symbol}
 use Rattle.ch_nestprint.specs.declared.symbol.Symbol.TheVariants.{Name, Number, Key, Mark}
-use Rattle.ch_nestprint.specs.Cuts.{is_name, is_symbol}
+use Rattle.ch_nestprint.specs.Cuts.{is_symbol}
 use Rattle.ch_nestprint.specs.Ends.{beginning_symbols, coef_if, coef_symbols, comma_end, constant_if, constant_symbols, end_symbols, ends_symbols, form_symbols, head_symbols, highs_symbols, is_below, is_none, is_strict, lead, limit_symbols, listed, lows_symbols, raised_if, step_symbols, terms_symbols, times_if}
 use Rattle.ch_nestprint.specs.Minus.{minus_in, minus_in_item, minus_in_items, minus_item_step, minus_step, size_if}
 use Rattle.ch_nestprint.specs.Names.{array_name, iterator_name, longest, minus_name}
-use Rattle.ch_nestprint.specs.Printable.{IsPrintable, has_name, is_fill}
+use Rattle.ch_nestprint.specs.Printable.{IsPrintable}
 use Rattle.ch_nestprint.specs.Printed.{array_symbols, arrays_symbols, assign_symbols, each_below, extent_symbols, fill_symbols, integer_if, integer_symbols, item_step, item_symbols, items_symbols, let_if, let_symbols, lets_symbols, parts_symbols, program_symbols}
 use Rattle.ch_nestprint.specs.Sides.{access_symbols, closing, constant_symbol, joined_symbols, opening, right_step, right_symbols, sub_symbols}
 use Rattle.ch_nestprint.proofs.Cases.{Each, by_exprs, each_item, fold_assign, fold_loop}
@@ -163,7 +164,7 @@ sub_tokens letters depth s h =
     joined (Mark signs.LeftBracket ∷ form_symbols letters s.form.coefs s.form.constant) (Mark signs.RightBracket ∷ [])
     (form_tokens letters depth s.form ((and_parts (form_fits depth s.form) (nat_eq s.modulus 0) h).0)) refl
 
-access_tokens : (arrays : List ArrayDecl) (letters depth : ℕ) (a : Access) → list_all has_name arrays ≡ true → access_fits arrays depth a ≡ true
+access_tokens : (arrays : List ArrayDecl) (letters depth : ℕ) (a : Access) → list_all is_named arrays ≡ true → access_fits arrays depth a ≡ true
     → AreTokens (access_symbols arrays letters a)
 access_tokens arrays letters depth a n h =
     let parts = and_parts (has_dimensions arrays a.array (length a.subs)) (list_all (sub_fits depth) a.subs) h in
@@ -187,7 +188,7 @@ joined_tokens parens x sign y h g =
     joined (opening parens ++ x ++ (Mark sign ∷ y)) (closing parens)
     (joined (opening parens ++ x) (Mark sign ∷ y) (joined (opening parens) x (opening_tokens parens) h) g) (closing_tokens parens)
 
-module _ (arrays : List ArrayDecl) (letters depth : ℕ) (have_names : list_all has_name arrays ≡ true) where
+module _ (arrays : List ArrayDecl) (letters depth : ℕ) (have_names : list_all is_named arrays ≡ true) where
   abbrev RightFine : Expr → Type 0
   RightFine x = parts_fit arrays depth x ≡ true → (standing : Standing) → AreTokens (right_symbols arrays letters x standing)
 
@@ -212,7 +213,7 @@ module _ (arrays : List ArrayDecl) (letters depth : ℕ) (have_names : list_all 
 
 -- items
 
-module _ (arrays : List ArrayDecl) (letters : ℕ) (have_names : list_all has_name arrays ≡ true) where
+module _ (arrays : List ArrayDecl) (letters : ℕ) (have_names : list_all is_named arrays ≡ true) where
   assign_tokens : (depth : ℕ) (b : Body) → body_fits arrays depth b ≡ true → AreTokens (assign_symbols arrays letters b)
   assign_tokens depth b h =
       let parts = and_parts (access_fits arrays depth b.write) (expr_fits arrays depth b.right) h in
@@ -353,17 +354,17 @@ fill_tokens f h =
     (joined (Mark signs.Equals ∷ Key words.Fill ∷ Mark signs.LeftParen ∷ integer_symbols f.a) (Mark signs.Comma ∷ integer_symbols f.b)
     (integer_tokens (is_below f.a) (unsigned_abs f.a) parts.0) (integer_tokens (is_below f.b) (unsigned_abs f.b) parts.1)) refl
 
-array_tokens : (d : ArrayDecl) (f : Fill) → has_name d ≡ true → list_all is_size d.extents ≡ true → is_fill f ≡ true → AreTokens (array_symbols d f)
+array_tokens : (d : ArrayDecl) (f : Fill) → is_named d ≡ true → list_all is_size d.extents ≡ true → is_fill f ≡ true → AreTokens (array_symbols d f)
 array_tokens d f n e h =
     joined (Key words.Array ∷ Name d.name ∷ flat_map extent_symbols d.extents) (fill_symbols f)
     (named d.name (flat_map extent_symbols d.extents) n (all_mapped is_symbol extent_symbols is_size extent_tokens d.extents e)) (fill_tokens f h)
 
-arrays_tokens : (arrays : List ArrayDecl) (fills : List Fill) → list_all has_name arrays ≡ true → list_all is_array arrays ≡ true → total arrays ≤ 262144 → list_all is_fill fills ≡ true
+arrays_tokens : (arrays : List ArrayDecl) (fills : List Fill) → list_all is_named arrays ≡ true → list_all is_array arrays ≡ true → total arrays ≤ 262144 → list_all is_fill fills ≡ true
     → AreTokens (arrays_symbols arrays fills)
 arrays_tokens [] fills n a t h = refl
 arrays_tokens (d ∷ ds) [] n a t h = refl
 arrays_tokens (d ∷ ds) (f ∷ fs) n a t h =
-    let names = and_parts (has_name d) (list_all has_name ds) n in
+    let names = and_parts (is_named d) (list_all is_named ds) n in
     let shapes = and_parts (is_array d) (list_all is_array ds) a in
     let fills = and_parts (is_fill f) (list_all is_fill fs) h in
     let extents = (and_parts _ (list_all (nat_le 1) d.extents) shapes.0).1 in
@@ -372,9 +373,9 @@ arrays_tokens (d ∷ ds) (f ∷ fs) n a t h =
 
 -- a program
 
-pub program_tokens : (name : List ℕ) (nest : LoopNest) (fills : List Fill) → IsPrintable name nest fills → AreTokens (program_symbols name nest fills)
-program_tokens name nest fills p =
-    let parts = and_parts (arrays_fit nest.arrays) _ p.formed in
+pub program_tokens : (name : List ℕ) (nest : LoopNest) (fills : List Fill) → IsTrue (is_nest nest) → IsPrintable name nest.arrays fills → AreTokens (program_symbols name nest fills)
+program_tokens name nest fills formed p =
+    let parts = and_parts (arrays_fit nest.arrays) _ formed in
     let shapes = and_parts (list_all is_array nest.arrays) (nat_le (total nest.arrays) most_cells) parts.0 in
     let fits : items_fit nest.arrays nest.items [] ≡ true = (and_parts _ (items_fit nest.arrays nest.items []) parts.1).1 in
     let letters = longest nest.arrays in

@@ -1,8 +1,8 @@
 -- Printed arrays are read as they were, each under a new name.
-use Rattle.std.proofs.Common.{◌≡◌, ℕ, zero, suc, ◌+◌, ◌*◌, ◌<◌, ◌≤◌, ℤ, pos, negsuc, unsigned_abs, max, Bool, true, false, not, ◌&&◌, List, [], ◌∷◌, ◌++◌, length, map, drop, Option, Some, None, Result, Ok, Err, refl, sym, ap, codes, ◌∙◌, append_assoc, length-append, subst, arith}
+use Rattle.std.proofs.Common.{◌≡◌, ℕ, zero, suc, ◌+◌, ◌*◌, ◌<◌, ◌≤◌, ℤ, pos, negsuc, unsigned_abs, max, Bool, true, false, not, ◌&&◌, ◌||◌, List, [], ◌∷◌, ◌++◌, length, map, drop, Option, Some, None, Result, Ok, Err, refl, sym, ap, codes, ◌∙◌, append_assoc, length-append, subst, arith}
 use Rattle.std.specs.Prelude.{neg_ℤ, nat_le}
 use Rattle.std.specs.Str.{bytes_eq}
-use Rattle.std.specs.List.{IsDistinct, flat_map, list_all}
+use Rattle.std.specs.List.{flat_map, list_all}
 use Rattle.std.proofs.Math.Nat.{mul-le-mul_left, mul_assoc}
 use Rattle.std.proofs.lemmas.Bool.{and_parts, and_from, leb-true, le-leb, eqb-true}
 use Rattle.std.proofs.lemmas.List.{append-nil}
@@ -22,13 +22,13 @@ use Rattle.ch_nestparse.specs.declared.ahead.Look.TheVariants as looks
 use Rattle.ch_nestparse.specs.declared.declarations.Declared.{Declared}
 use Rattle.ch_nestparse.specs.declared.scope.Named.{Named}
 use Rattle.ch_nestparse.specs.declared.scope.Named.TheVariants.{Let, Array, Iterator}
+use Rattle.ch_nestparse.specs.Distinct.{are_distinct, has_name}
 use Rattle.ch_nestparse.specs.Declarations.{array_at, arrays_at, begins_array, extent_at, extent_if, extents_at, fill_at, fitting, is_extent, no_arrays, opens_bracket}
 use Rattle.ch_nestparse.specs.Read.{◌>>=◌, Names, Read, begins, choose, find_name, fresh_at, guarded, integer_at, is_keyword, is_sign, keyword_at, place, repeated, seen, sign_at, text_at}
 use Rattle.ch_nestprint.specs.declared.symbol.Symbol.{Symbol}
 use Rattle.ch_nestprint.specs.declared.symbol.Symbol.TheVariants.{Name, Number, Key, Mark}
 use Rattle.ch_nestprint.specs.Ends.{is_below}
 use Rattle.ch_nestprint.specs.Names.{array_name, iterator_name, longest, made_name, minus_name}
-use Rattle.ch_nestprint.specs.Printable.{names_of}
 use Rattle.ch_nestprint.specs.Printed.{array_symbols, arrays_symbols, extent_symbols, fill_symbols, integer_if, integer_symbols}
 use Rattle.ch_nestprint.proofs.Amounts.{below_negsuc, below_pos}
 use Rattle.ch_nestprint.proofs.Cases.{Each}
@@ -77,16 +77,26 @@ Differs text done = Each (λ x. bytes_eq text x.name ≡ false) done
 flipped : (xs ys : List ℕ) → bytes_eq xs ys ≡ false → bytes_eq ys xs ≡ false
 flipped xs ys h = other_bytes ys xs (λ e. let g : bytes_eq xs ys ≡ true = ap (bytes_eq xs) e ∙ same_bytes xs in absurd (cc))
 
-first_differs : (x : ArrayDecl) (xs : List ArrayDecl) (a : ArrayDecl) (more : List ArrayDecl) → IsDistinct bytes_eq (names_of (x ∷ (xs ++ a ∷ more))) → bytes_eq x.name a.name ≡ false
-unfolding IsDistinct
-first_differs x [] a more h = h.0.0
-first_differs x (y ∷ ys) a more h = first_differs x ys a more (h.0.1, h.1.1)
+or_none : (a b : Bool) → (a || b) ≡ false → (a ≡ false) × (b ≡ false)
+or_none true b h = absurd (cc)
+or_none false b h = (refl, h)
 
-distinct_rest : (x : ArrayDecl) (xs : List ArrayDecl) → IsDistinct bytes_eq (names_of (x ∷ xs)) → IsDistinct bytes_eq (names_of xs)
-unfolding IsDistinct
-distinct_rest x xs h = h.1
+not_true : (b : Bool) → not b ≡ true → b ≡ false
+not_true true h = absurd (cc)
+not_true false h = refl
 
-new_differs : (done : List ArrayDecl) (a : ArrayDecl) (more : List ArrayDecl) → IsDistinct bytes_eq (names_of (done ++ a ∷ more)) → Differs a.name done
+unnamed : (text : List ℕ) (xs : List ArrayDecl) (a : ArrayDecl) (more : List ArrayDecl) → has_name text (xs ++ a ∷ more) ≡ false → bytes_eq text a.name ≡ false
+unnamed text [] a more h = (or_none (bytes_eq text a.name) (has_name text more) h).0
+unnamed text (x ∷ xs) a more h = unnamed text xs a more ((or_none (bytes_eq text x.name) (has_name text (xs ++ a ∷ more)) h).1)
+
+first_differs : (x : ArrayDecl) (xs : List ArrayDecl) (a : ArrayDecl) (more : List ArrayDecl) → are_distinct (x ∷ (xs ++ a ∷ more)) ≡ true → bytes_eq x.name a.name ≡ false
+first_differs x xs a more h =
+    unnamed x.name xs a more (not_true (has_name x.name (xs ++ a ∷ more)) ((and_parts (not (has_name x.name (xs ++ a ∷ more))) (are_distinct (xs ++ a ∷ more)) h).0))
+
+distinct_rest : (x : ArrayDecl) (xs : List ArrayDecl) → are_distinct (x ∷ xs) ≡ true → are_distinct xs ≡ true
+distinct_rest x xs h = (and_parts (not (has_name x.name xs)) (are_distinct xs) h).1
+
+new_differs : (done : List ArrayDecl) (a : ArrayDecl) (more : List ArrayDecl) → are_distinct (done ++ a ∷ more) ≡ true → Differs a.name done
 new_differs [] a more h = tt
 new_differs (x ∷ xs) a more h = (flipped x.name a.name (first_differs x xs a more h), new_differs xs a more (distinct_rest x (xs ++ a ∷ more) h))
 
@@ -287,7 +297,7 @@ module _ (bytes : List ℕ) where
       (ap (is_keyword words.Array) (seen_front bytes ts rest sees) ∙ ends) (given_ok (ArraysAfter done fills letters sizes rest) (d, ts) (p, sees))
 
   each_array : (letters : ℕ) (sizes : List ℕ) (arrays : List ArrayDecl) (fills : List Fill) (done : List ArrayDecl) (starts : List Fill) (k : ℕ) (d : Declared) (ts : List Token) (rest : List Symbol)
-      → length fills ≡ length arrays → Placed d done starts letters sizes → Each (λ x. length x.name ≤ letters) arrays → IsDistinct bytes_eq (names_of (done ++ arrays)) → list_all is_array arrays ≡ true
+      → length fills ≡ length arrays → Placed d done starts letters sizes → Each (λ x. length x.name ≤ letters) arrays → are_distinct (done ++ arrays) ≡ true → list_all is_array arrays ≡ true
       → total (done ++ arrays) ≤ 262144 → IsEnd words.Array rest → length (arrays_symbols arrays fills) ≤ k → Sees bytes ts (arrays_symbols arrays fills ++ rest)
       → Given (ArraysAfter (done ++ arrays) (starts ++ fills) letters sizes rest) (repeated (begins_array bytes) (array_at bytes) k d ts)
   unfolding repeated
@@ -317,7 +327,7 @@ module _ (bytes : List ℕ) where
       (ap (is_keyword words.Array) (seen_front bytes ts (array_symbols a f ++ more) flat))
       (given_bind (Valued bytes next more) goal (array_at bytes d ts) (λ x. repeated (begins_array bytes) (array_at bytes) k x.0 x.1) (array_given d a f ts more fresh parts.0 few_here flat) (λ x b.
       let now : Placed x.0 (done ++ a ∷ []) (starts ++ f ∷ []) letters sizes = subst (λ (y : Declared). Placed y (done ++ a ∷ []) (starts ++ f ∷ []) letters sizes) (sym b.0) (placed_more d done starts letters sizes a f p short.0 differs) in
-      let distinct : IsDistinct bytes_eq (names_of ((done ++ a ∷ []) ++ more_arrays)) = rw joined differ in
+      let distinct : are_distinct ((done ++ a ∷ []) ++ more_arrays) ≡ true = rw joined differ in
       let fits : total ((done ++ a ∷ []) ++ more_arrays) ≤ 262144 = rw joined few in
       let rest_long : length tail ≤ k = omega (arith, length-append (array_symbols a f) tail) in
       let made = each_array letters sizes more_arrays fs (done ++ a ∷ []) (starts ++ f ∷ []) k x.0 x.1 rest (omega arith) now short.1 distinct parts.1 fits ends rest_long b.1 in
@@ -335,7 +345,7 @@ module _ (bytes : List ℕ) where
   }
 
   pub arrays_given : (arrays : List ArrayDecl) (fills : List Fill) (names : Names) (sizes : List ℕ) (ts : List Token) (rest : List Symbol) → length fills ≡ length arrays → LetNames names (longest arrays) sizes
-      → IsDistinct bytes_eq (names_of arrays) → list_all is_array arrays ≡ true → total arrays ≤ 262144 → IsEnd words.Array rest → Sees bytes ts (arrays_symbols arrays fills ++ rest)
+      → are_distinct arrays ≡ true → list_all is_array arrays ≡ true → total arrays ≤ 262144 → IsEnd words.Array rest → Sees bytes ts (arrays_symbols arrays fills ++ rest)
       → Given (ArraysAfter arrays fills (longest arrays) sizes rest) (arrays_at bytes names ts)
   arrays_given arrays fills names sizes ts rest same lets differ shapes few ends sees =
       let letters = longest arrays in

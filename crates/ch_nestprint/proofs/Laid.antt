@@ -1,6 +1,6 @@
 -- The tokens of symbols that are laid out as text are these symbols.
 use Rattle.std.proofs.Common.{◌≡◌, ℕ, zero, suc, ◌+◌, ◌-◌, ◌*◌, ◌<◌, ◌≤◌, Bool, true, false, not, ◌&&◌, ◌||◌, if◌then◌else◌, List, [], ◌∷◌, ◌++◌, length, map, drop, take, get_or, replicate, Option, Some, None, Result, Ok, Err, refl, sym, ap, ◌∙◌, add-one, append_assoc, length-append, arith}
-use Rattle.std.specs.Prelude.{nat_lt, nat_le, take_while, ◌==◌}
+use Rattle.std.specs.Prelude.{is_none, nat_lt, nat_le, take_while, ◌==◌}
 use Rattle.std.specs.List.{list_all, prefix_len}
 use Rattle.std.specs.Int.Digits.{digits_of, AllBelowBase, number_from_digits}
 use Rattle.std.proofs.lemmas.Int.Digits.{all_below_base_digits_of, number_digits_of, first_digits_of}
@@ -8,7 +8,7 @@ use Rattle.std.proofs.Math.Seq.{drop-append_seam, take-append_seam}
 use Rattle.std.proofs.lemmas.Bool.{and_parts, and_from}
 use Rattle.std.proofs.lemmas.Bool.Decides.{nat_tests}
 use Rattle.ch_lex.specs.Bytes.{begins, is_ascii, is_blank, is_comment, is_digit, is_hash, is_letter, is_word, number_of}
-use Rattle.ch_lex.specs.Keywords.{keyword_text}
+use Rattle.ch_lex.specs.Keywords.{keyword_of, keyword_text}
 use Rattle.ch_lex.specs.Signs.{sign_text}
 use Rattle.ch_lex.specs.Tokens.{begun, joined, most_number, number_front, sign_front, small_number, tokens_from, with_token}
 use Rattle.ch_lex.specs.declared.ahead.Front.{Front}
@@ -26,7 +26,7 @@ use Rattle.ch_print.specs.Numbers.{digit_text, number_text}
 use Rattle.ch_nestprint.specs.declared.layout.Layout.{Layout}
 use Rattle.ch_nestprint.specs.declared.symbol.Symbol.{Symbol}
 use Rattle.ch_nestprint.specs.declared.symbol.Symbol.TheVariants.{Name, Number, Key, Mark}
-use Rattle.ch_nestprint.specs.Cuts.{is_name, is_symbol, kind_of, tokens_at}
+use Rattle.ch_nestprint.specs.Cuts.{is_symbol, kind_of, tokens_at}
 use Rattle.ch_nestprint.specs.Layouts.{blank_if, ends_line, first_layout, gap, gap_if, is_tight_before, layout_after, may_go_on, new_line, spell, symbol_text}
 
 -- gaps
@@ -247,7 +247,10 @@ Calm (Mark s) rest = CalmSign s rest
 
 symbol_read : (s : Symbol) (at : ℕ) (rest : List ℕ) → is_symbol s ≡ true → Calm s rest
     → tokens_from 0 at (symbol_text s ++ rest) ≡ with_token (kind_of s) (length (symbol_text s)) at (tokens_from 0 (at + length (symbol_text s)) rest)
-symbol_read (Name text) at rest h calm = name_read text at rest ((and_parts _ _ h).0) calm
+symbol_read (Name text) at rest h calm =
+    let first = and_parts (begins is_letter text) (list_all is_word text && is_none (keyword_of text)) h in
+    let all = and_parts (list_all is_word text) (is_none (keyword_of text)) first.1 in
+    name_read text at rest (and_from (begins is_letter text) (list_all is_word text) first.0 all.0) calm
 symbol_read (Number n) at rest h calm = number_read n at rest h calm
 symbol_read (Key k) at rest h calm = name_read (keyword_text k) at rest (key_word k) calm
 symbol_read (Mark s) at rest h calm = sign_read s at rest calm

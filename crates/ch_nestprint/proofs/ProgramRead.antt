@@ -1,7 +1,8 @@
 -- A printed program is read as the program.
 use Rattle.std.proofs.Common.{◌≡◌, ℕ, zero, suc, ◌+◌, ◌<◌, ◌≤◌, Bool, true, false, not, ◌&&◌, List, [], ◌∷◌, ◌++◌, length, map, drop, Option, Some, None, Result, Ok, Err, refl, sym, ap, ◌∙◌, append_assoc, arith}
 use Rattle.std.specs.Prelude.{is_some, nat_le}
-use Rattle.std.specs.List.{IsDistinct, list_all}
+use Rattle.std.specs.Bool.{IsTrue}
+use Rattle.std.specs.List.{list_all}
 use Rattle.std.proofs.lemmas.Bool.{and_parts, leb-true}
 use Rattle.ch_lex.specs.Tokens.{tokens_of}
 use Rattle.ch_lex.specs.declared.error.Code2.TheVariants.{P1}
@@ -76,11 +77,11 @@ nest_of arrays items = record { arrays = arrays; items = items }
 same_nest : (a b : List ArrayDecl) (x y : List Item) → a ≡ b → x ≡ y → nest_of a x ≡ nest_of b y
 same_nest a b x y e f = ap (λ (c : List ArrayDecl). nest_of c x) e ∙ ap (nest_of b) f
 
-section_given : (bytes name : List ℕ) (nest : LoopNest) (fills : List Fill) (ts : List Token) → IsPrintable name nest fills → Sees bytes ts (program_symbols name nest fills)
+section_given : (bytes name : List ℕ) (nest : LoopNest) (fills : List Fill) (ts : List Token) → IsTrue (is_nest nest) → IsPrintable name nest.arrays fills → Sees bytes ts (program_symbols name nest fills)
     → Given (IsSection name nest fills) (section_at bytes ts)
 unfolding section_at
-section_given bytes name nest fills ts p sees =
-    let parts = and_parts (arrays_fit nest.arrays) (is_some (all_numbered nest.items 0) && items_fit nest.arrays nest.items []) p.formed in
+section_given bytes name nest fills ts formed p sees =
+    let parts = and_parts (arrays_fit nest.arrays) (is_some (all_numbered nest.items 0) && items_fit nest.arrays nest.items []) formed in
     let shapes = and_parts (list_all is_array nest.arrays) (nat_le (total nest.arrays) most_cells) parts.0 in
     let items_parts = and_parts (is_some (all_numbered nest.items 0)) (items_fit nest.arrays nest.items []) parts.1 in
     let labels = numbered_to (all_numbered nest.items 0) items_parts.0 in
@@ -108,9 +109,9 @@ section_given bytes name nest fills ts p sees =
     (items_given bytes nest.arrays letters shapes.0 nest.items x.0.names labels.0 x.1 [] known items_parts.1 labels.1 e.0.lets e.1) (λ y f.
     given_ok goal _ (b.0, same_nest x.0.arrays nest.arrays y.0.0 nest.items e.0.arrays (ap (λ (z : Items). z.0) f.0), e.0.starts, none_left bytes y.1 f.1)))))))
 
-pub read_back : (text name : List ℕ) (nest : LoopNest) (fills : List Fill) → IsPrintable name nest fills → Shows text (program_symbols name nest fills) → IsReadAs text name nest fills
-read_back text name nest fills p s =
-    let g = section_given text name nest fills s.0 p s.2 in
+pub read_back : (text name : List ℕ) (nest : LoopNest) (fills : List Fill) → IsTrue (is_nest nest) → IsPrintable name nest.arrays fills → Shows text (program_symbols name nest fills) → IsReadAs text name nest fills
+read_back text name nest fills formed p s =
+    let g = section_given text name nest fills s.0 formed p s.2 in
     record {
       tokens = s.0;
       section = g.0.0;

@@ -11,9 +11,9 @@ use Rattle.ch_nest.specs.declared.nest.ArrayDecl.{ArrayDecl}
 use Rattle.ch_nest.specs.Shape.{has_dimensions}
 use Rattle.ch_print.specs.Numbers.{number_text}
 use Rattle.ch_nestprint.specs.declared.symbol.Symbol.{Symbol}
-use Rattle.ch_nestprint.specs.Cuts.{is_name, is_no_keyword, is_symbol}
+use Rattle.ch_nestprint.specs.Cuts.{is_symbol}
 use Rattle.ch_nestprint.specs.Names.{array_name, iterator_name, minus_name}
-use Rattle.ch_nestprint.specs.Printable.{has_name}
+use Rattle.ch_nestparse.specs.Spelling.{is_name, is_named}
 use Rattle.ch_nestprint.proofs.Laid.{all_digits}
 
 pub all_joined : {A : Type 0} (p : A → Bool) (xs ys : List A) → list_all p xs ≡ true → list_all p ys ≡ true → list_all p (xs ++ ys) ≡ true
@@ -46,14 +46,14 @@ made_words beginning letters number h =
 
 pub iterator_named : (letters level : ℕ) → is_name (iterator_name letters level) ≡ true
 unfolding keyword_of
-iterator_named letters level = and_from _ true (and_from true _ refl (made_words (codes "i") letters level refl)) refl
+iterator_named letters level = and_from true _ refl (and_from _ true (made_words (codes "i") letters level refl) refl)
 
 pub minus_named : (letters size : ℕ) → is_name (minus_name letters size) ≡ true
 unfolding keyword_of
-minus_named letters size = and_from _ true (and_from true _ refl (made_words (codes "minus") letters size refl)) refl
+minus_named letters size = and_from true _ refl (and_from _ true (made_words (codes "minus") letters size refl) refl)
 
-pub array_named : (arrays : List ArrayDecl) (k n : ℕ) → list_all has_name arrays ≡ true → has_dimensions arrays k n ≡ true → is_name (array_name arrays k) ≡ true
+pub array_named : (arrays : List ArrayDecl) (k n : ℕ) → list_all is_named arrays ≡ true → has_dimensions arrays k n ≡ true → is_name (array_name arrays k) ≡ true
 array_named [] zero n h d = absurd (cc)
 array_named [] (suc k) n h d = absurd (cc)
-array_named (x ∷ xs) zero n h d = (and_parts (has_name x) (list_all has_name xs) h).0
-array_named (x ∷ xs) (suc k) n h d = array_named xs k n ((and_parts (has_name x) (list_all has_name xs) h).1) d
+array_named (x ∷ xs) zero n h d = (and_parts (is_named x) (list_all is_named xs) h).0
+array_named (x ∷ xs) (suc k) n h d = array_named xs k n ((and_parts (is_named x) (list_all is_named xs) h).1) d

@@ -1,6 +1,6 @@
 -- The tokens of a text that was spelled show the symbols again.
 use Rattle.std.proofs.Common.{◌≡◌, ℕ, ◌+◌, ◌-◌, ◌≤◌, Bool, true, false, ◌&&◌, List, [], ◌∷◌, ◌++◌, length, map, take, drop, min, Option, Some, None, Result, Ok, refl, sym, ap, ◌∙◌, append_assoc, length-append, arith}
-use Rattle.std.specs.Prelude.{nat_le}
+use Rattle.std.specs.Prelude.{is_none, nat_le}
 use Rattle.std.specs.List.{list_all}
 use Rattle.std.proofs.Math.Seq.{drop-append_seam, take-append_seam}
 use Rattle.std.proofs.lemmas.Bool.{and_parts, leb-true}
@@ -14,7 +14,7 @@ use Rattle.ch_nestparse.specs.Read.{kind_look, text_of, word_look}
 use Rattle.ch_nestprint.specs.declared.layout.Layout.{Layout}
 use Rattle.ch_nestprint.specs.declared.symbol.Symbol.{Symbol}
 use Rattle.ch_nestprint.specs.declared.symbol.Symbol.TheVariants.{Name, Number, Key, Mark}
-use Rattle.ch_nestprint.specs.Cuts.{is_no_keyword, is_symbol, kind_of, symbol_of, symbol_of_look, tokens_at}
+use Rattle.ch_nestprint.specs.Cuts.{is_symbol, kind_of, symbol_of, symbol_of_look, tokens_at}
 use Rattle.ch_nestprint.specs.Layouts.{first_layout, gap, layout_after, spell, symbol_text}
 use Rattle.ch_nestprint.proofs.Laid.{laid}
 
@@ -38,12 +38,14 @@ key_back words.Machine = refl
 key_back words.Eager = refl
 key_back words.Patient = refl
 
-name_back : (found : Option Keyword) (text : List ℕ) → is_no_keyword found ≡ true → symbol_of_look (word_look found) text ≡ Name text
+name_back : (found : Option Keyword) (text : List ℕ) → is_none found ≡ true → symbol_of_look (word_look found) text ≡ Name text
 name_back None text h = refl
 name_back (Some k) text h = absurd (cc)
 
 look_back : (s : Symbol) → is_symbol s ≡ true → symbol_of_look (kind_look (kind_of s) (symbol_text s)) (symbol_text s) ≡ s
-look_back (Name text) h = name_back (keyword_of text) text ((and_parts (begins is_letter text && list_all is_word text) (is_no_keyword (keyword_of text)) h).1)
+look_back (Name text) h =
+    let first = and_parts (begins is_letter text) (list_all is_word text && is_none (keyword_of text)) h in
+    name_back (keyword_of text) text ((and_parts (list_all is_word text) (is_none (keyword_of text)) first.1).1)
 look_back (Number n) h =
     let small : n ≤ most_number = leb-true n most_number h in
     let same : min n most_number ≡ n = omega arith in

@@ -1,28 +1,17 @@
 -- The tokens of a printed program, as symbols.
 use Rattle.std.specs.Prelude.{◌≡◌, Ok, ℕ, zero, suc, ◌+◌, nat_le, Bool, true, false, not, ◌&&◌, List, [], ◌∷◌, length, map, Option, Some, None}
-use Rattle.std.specs.List.{list_all}
-use Rattle.ch_lex.specs.Bytes.{begins, is_letter, is_word}
-use Rattle.ch_lex.specs.Keywords.{keyword_of}
 use Rattle.ch_lex.specs.Tokens.{most_number, tokens_of}
-use Rattle.ch_lex.specs.declared.keyword.Keyword.{Keyword}
 use Rattle.ch_lex.specs.declared.token.Kind.{Kind}
 use Rattle.ch_lex.specs.declared.token.Kind.TheVariants as kinds
 use Rattle.ch_lex.specs.declared.token.Token.{Token}
 use Rattle.ch_nestparse.specs.Read.{kind_look, text_of}
+use Rattle.ch_nestparse.specs.Spelling.{is_name}
 use Rattle.ch_nestparse.specs.declared.ahead.Look.{Look}
 use Rattle.ch_nestparse.specs.declared.ahead.Look.TheVariants as looks
 use Rattle.ch_nestprint.specs.declared.layout.Layout.{Layout}
 use Rattle.ch_nestprint.specs.declared.symbol.Symbol.{Symbol}
 use Rattle.ch_nestprint.specs.declared.symbol.Symbol.TheVariants.{Name, Number, Key, Mark}
 use Rattle.ch_nestprint.specs.Layouts.{first_layout, gap, layout_after, symbol_text}
-
-abbrev pub is_no_keyword : Option Keyword → Bool
-is_no_keyword (Some k) = false
-is_no_keyword None = true
-
--- a letter or an underscore, then letters, underscores and digits; and no keyword
-abbrev pub is_name : List ℕ → Bool
-is_name text = (begins is_letter text && list_all is_word text) && is_no_keyword (keyword_of text)
 
 -- a symbol that is a token of the language: its name is a name, its number isn't too large
 abbrev pub is_symbol : Symbol → Bool

@@ -170,8 +170,9 @@ pub fn print_program(
     fills: &[Fill],
 ) -> Result<Text, AllocError>
     ensures text { IfOk result (λ text. text ≡ program_text name.now nest.now fills.now) }
-    ensures tokens { IsPrintable name.now nest.now fills.now → IfOk result (λ text. Shows text (program_symbols name.now nest.now fills.now)) }
-    ensures reads { IsPrintable name.now nest.now fills.now → IfOk result (λ text. IsReadAs text name.now nest.now fills.now) }
+    ensures tokens { IsPrintable name.now nest.now.arrays fills.now → IfOk result (λ text. Shows text (program_symbols name.now nest.now fills.now)) }
+    ensures reads { IsPrintable name.now nest.now.arrays fills.now → IfOk result (λ text. IsReadAs text name.now nest.now fills.now) }
 {
+    nest.known();
     printed(alloc, name, nest, fills)
 }
