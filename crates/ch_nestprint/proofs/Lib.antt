@@ -9,6 +9,7 @@ pub mod ItemsRead
 pub mod Laid
 pub mod LetsRead
 pub mod NamesRead
+pub mod Printables
 pub mod Printing
 pub mod ProgramRead
 pub mod Reading

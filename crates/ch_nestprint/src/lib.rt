@@ -8,10 +8,12 @@ mod forms;
 mod layout;
 mod minus;
 mod named;
+mod printable;
 mod program;
 mod right;
 mod symbol;
 
+pub use printable::parsed_programs_are_printable;
 pub use program::print_program;
 
 #[cfg(test)]
