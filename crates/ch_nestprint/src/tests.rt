@@ -9,6 +9,9 @@ use std::process::Abort;
 use std::test::Fail;
 
 fn parsed(alloc: Global, text: &[u8]) -> Result<ParsedProgram, Fail> {
+    if text.len() > 4096 {
+        return Err("a short text".into());
+    }
     let found = tokens(alloc, text)?;
     let program = parse_program(alloc, found.as_slice(), text, 0)?;
     Ok(program)
