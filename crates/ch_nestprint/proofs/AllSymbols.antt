@@ -1,8 +1,8 @@
 -- Each symbol of a printed program is a token of the language.
-use Rattle.std.proofs.Common.{◌≡◌, ℕ, zero, suc, ◌+◌, ◌*◌, ◌<◌, ◌≤◌, ◌^◌, ℤ, pos, ◌+ℤ◌, unsigned_abs, Bool, true, false, not, ◌&&◌, ◌||◌, nat_eq, nat_lt, List, [], ◌∷◌, ◌++◌, length, map, Option, Some, None, refl, sym, ap, ◌∙◌, arith}
+use Rattle.std.proofs.Common.{◌≡◌, ℕ, suc, ◌+◌, ◌≤◌, ℤ, unsigned_abs, Bool, true, false, not, ◌&&◌, ◌||◌, nat_eq, nat_lt, List, [], ◌∷◌, ◌++◌, length, map, refl, sym, ap, ◌∙◌, arith}
 use Rattle.std.specs.Prelude.{nat_le}
 use Rattle.std.specs.Bool.{IsTrue}
-use Rattle.std.specs.List.{list_all, list_any, flat_map, concat}
+use Rattle.std.specs.List.{list_all, list_any, flat_map}
 use Rattle.std.proofs.Math.Nat.{mul-le-mul_left, mul-le-mul_right}
 use Rattle.std.proofs.lemmas.Bool.{and_parts, and_from, leb-true, le-leb}
 use Rattle.ch_affine.specs.Form.{Form}
@@ -15,7 +15,7 @@ use Rattle.ch_lex.specs.declared.token.Sign.TheVariants as signs
 use Rattle.ch_nest.specs.Arrays.{cells_in, total}
 use Rattle.ch_nest.specs.Limits.{most_affine, most_cells}
 use Rattle.ch_nest.specs.LoopNest.{LoopNest}
-use Rattle.ch_nest.specs.Shape.{access_fits, all_pass, are_few, arrays_fit, body_fits, box_of, coefs_fit, constant_fits, expr_fits, form_fits, has_dimensions, head_fits, highs_fit, is_array, is_at_most, is_nest, is_operand, is_small, is_term, item_fits, item_fits_step, items_fit, lows_fit, nested, operands, parts_fit, parts_fit_step, raised_fits, sub_fits}
+use Rattle.ch_nest.specs.Shape.{access_fits, are_few, arrays_fit, body_fits, box_of, coefs_fit, constant_fits, expr_fits, form_fits, has_dimensions, head_fits, highs_fit, is_array, is_at_most, is_nest, is_operand, is_small, is_term, item_fits, item_fits_step, items_fit, lows_fit, parts_fit, parts_fit_step, raised_fits, sub_fits}
 use Rattle.ch_nest.specs.declared.exprs.Standing.{Standing}
 use Rattle.ch_nest.specs.declared.exprs.Standing.TheVariants.{Term, Factor, Operand}
 use Rattle.ch_nest.specs.declared.nest.Access.{Access}
@@ -32,11 +32,11 @@ use Rattle.ch_nestparse.proofs.Nesting.{fold_add, fold_iter, fold_mul, fold_neg,
 use Rattle.ch_nestprint.specs.declared.symbol.Symbol.{Symbol}
 use Rattle.ch_nestprint.specs.declared.symbol.Symbol.TheVariants.{Name, Number, Key, Mark}
 use Rattle.ch_nestprint.specs.Cuts.{is_symbol}
-use Rattle.ch_nestprint.specs.Ends.{beginning_symbols, coef_if, coef_symbols, comma_end, constant_if, constant_symbols, end_symbols, ends_symbols, form_symbols, head_symbols, highs_symbols, is_below, is_none, is_strict, lead, limit_symbols, listed, lows_symbols, raised_if, step_symbols, terms_symbols, times_if}
+use Rattle.ch_nestprint.specs.Ends.{beginning_symbols, coef_if, coef_symbols, comma_end, constant_if, end_symbols, ends_symbols, form_symbols, head_symbols, highs_symbols, is_below, is_none, is_strict, lead, limit_symbols, listed, lows_symbols, raised_if, step_symbols, terms_symbols, times_if}
 use Rattle.ch_nestprint.specs.Minus.{minus_in, minus_in_item, minus_in_items, minus_item_step, minus_step, size_if}
 use Rattle.ch_nestprint.specs.Names.{array_name, iterator_name, longest, minus_name}
 use Rattle.ch_nestprint.specs.Printable.{IsPrintable}
-use Rattle.ch_nestprint.specs.Printed.{array_symbols, arrays_symbols, assign_symbols, each_below, extent_symbols, fill_symbols, integer_if, integer_symbols, item_step, item_symbols, items_symbols, let_if, let_symbols, lets_symbols, parts_symbols, program_symbols}
+use Rattle.ch_nestprint.specs.Printed.{array_symbols, arrays_symbols, assign_symbols, extent_symbols, fill_symbols, integer_if, integer_symbols, item_step, item_symbols, items_symbols, let_if, lets_symbols, program_symbols}
 use Rattle.ch_nestprint.specs.Sides.{access_symbols, closing, constant_symbol, joined_symbols, opening, right_step, right_symbols, sub_symbols}
 use Rattle.ch_nestprint.proofs.Cases.{Each, by_exprs, each_item, fold_assign, fold_loop}
 use Rattle.ch_nestprint.proofs.Spelling.{all_joined, all_mapped, array_named, iterator_named, minus_named}

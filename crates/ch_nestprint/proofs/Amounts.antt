@@ -1,17 +1,14 @@
 -- The numbers of affine forms while a form is read term by term.
-use Rattle.std.proofs.Common.{◌≡◌, ℕ, zero, suc, ◌+◌, ◌≤◌, ℤ, pos, negsuc, ◌+ℤ◌, ◌*ℤ◌, unsigned_abs, Bool, true, false, ◌&&◌, List, [], ◌∷◌, ◌++◌, length, replicate, cond, Option, Some, None, Result, Ok, refl, sym, ap, ◌∙◌, arith}
+use Rattle.std.proofs.Common.{◌≡◌, ℕ, zero, suc, ◌+◌, ℤ, pos, negsuc, ◌+ℤ◌, ◌*ℤ◌, unsigned_abs, Bool, true, false, List, [], ◌∷◌, ◌++◌, length, replicate, Option, None, Ok, refl, ap, arith}
 use Rattle.std.specs.Prelude.{neg_ℤ, slice_set}
 use Rattle.std.specs.List.{find, list_all}
-use Rattle.std.proofs.lemmas.Bool.{and_parts, and_from}
+use Rattle.std.proofs.lemmas.Bool.{and_parts}
 use Rattle.std.proofs.lemmas.Bool.Decides.{nat_tests}
 use Rattle.std.proofs.lemmas.Int.{ints}
-use Rattle.ch_affine.specs.Combined.{combined, combined_coefs, first_wide, is_wide}
+use Rattle.ch_affine.specs.Combined.{combined_coefs, is_wide}
 use Rattle.ch_affine.specs.Form.{Form}
-use Rattle.ch_lex.specs.declared.token.Sign.{Sign}
-use Rattle.ch_lex.specs.declared.token.Sign.TheVariants as signs
 use Rattle.ch_nest.specs.Limits.{most_affine}
 use Rattle.ch_nest.specs.Shape.{is_at_most}
-use Rattle.ch_nestparse.specs.declared.part.Part.{Part}
 use Rattle.ch_nestparse.specs.Forms.{limit, narrow, narrow_if}
 use Rattle.ch_nestprint.specs.Ends.{is_below, is_none}
 

@@ -1,5 +1,5 @@
 -- Printed arrays are read as they were, each under a new name.
-use Rattle.std.proofs.Common.{◌≡◌, ℕ, zero, suc, ◌+◌, ◌*◌, ◌<◌, ◌≤◌, ℤ, pos, negsuc, unsigned_abs, max, Bool, true, false, not, ◌&&◌, ◌||◌, List, [], ◌∷◌, ◌++◌, length, map, drop, Option, Some, None, Result, Ok, Err, refl, sym, ap, codes, ◌∙◌, append_assoc, length-append, subst, arith}
+use Rattle.std.proofs.Common.{◌≡◌, ℕ, zero, suc, ◌+◌, ◌*◌, ◌<◌, ◌≤◌, ℤ, pos, negsuc, Bool, true, false, not, ◌&&◌, ◌||◌, List, [], ◌∷◌, ◌++◌, length, drop, Some, None, Ok, refl, sym, ap, codes, ◌∙◌, append_assoc, length-append, subst, arith}
 use Rattle.std.specs.Prelude.{neg_ℤ, nat_le}
 use Rattle.std.specs.Str.{bytes_eq}
 use Rattle.std.specs.List.{flat_map, list_all}
@@ -7,8 +7,6 @@ use Rattle.std.proofs.Math.Nat.{mul-le-mul_left, mul_assoc}
 use Rattle.std.proofs.lemmas.Bool.{and_parts, and_from, leb-true, le-leb, eqb-true}
 use Rattle.std.proofs.lemmas.List.{append-nil}
 use Rattle.ch_lex.specs.declared.error.Code2.TheVariants.{P1, D8}
-use Rattle.ch_lex.specs.declared.error.ParseError.{ParseError}
-use Rattle.ch_lex.specs.declared.keyword.Keyword.{Keyword}
 use Rattle.ch_lex.specs.declared.keyword.Keyword.TheVariants as words
 use Rattle.ch_lex.specs.declared.token.Sign.TheVariants as signs
 use Rattle.ch_lex.specs.declared.token.Token.{Token}
@@ -18,16 +16,14 @@ use Rattle.ch_nest.specs.Shape.{has_dimensions, is_array}
 use Rattle.ch_nest.specs.declared.nest.ArrayDecl.{ArrayDecl}
 use Rattle.ch_nest.specs.declared.nest.Fill.{Fill}
 use Rattle.ch_nestparse.specs.declared.ahead.Look.{Look}
-use Rattle.ch_nestparse.specs.declared.ahead.Look.TheVariants as looks
 use Rattle.ch_nestparse.specs.declared.declarations.Declared.{Declared}
 use Rattle.ch_nestparse.specs.declared.scope.Named.{Named}
-use Rattle.ch_nestparse.specs.declared.scope.Named.TheVariants.{Let, Array, Iterator}
+use Rattle.ch_nestparse.specs.declared.scope.Named.TheVariants.{Let, Array}
 use Rattle.ch_nestparse.specs.Distinct.{are_distinct, has_name}
 use Rattle.ch_nestparse.specs.Declarations.{array_at, arrays_at, begins_array, extent_at, extent_if, extents_at, fill_at, fitting, is_extent, no_arrays, opens_bracket}
-use Rattle.ch_nestparse.specs.Read.{◌>>=◌, Names, Read, begins, choose, find_name, fresh_at, guarded, integer_at, is_keyword, is_sign, keyword_at, place, repeated, seen, sign_at, text_at}
+use Rattle.ch_nestparse.specs.Read.{◌>>=◌, Names, find_name, fresh_at, guarded, integer_at, is_keyword, is_sign, keyword_at, place, repeated, seen, sign_at, text_at}
 use Rattle.ch_nestprint.specs.declared.symbol.Symbol.{Symbol}
 use Rattle.ch_nestprint.specs.declared.symbol.Symbol.TheVariants.{Name, Number, Key, Mark}
-use Rattle.ch_nestprint.specs.Ends.{is_below}
 use Rattle.ch_nestprint.specs.Names.{array_name, iterator_name, longest, made_name, minus_name}
 use Rattle.ch_nestprint.specs.Printed.{array_symbols, arrays_symbols, extent_symbols, fill_symbols, integer_if, integer_symbols}
 use Rattle.ch_nestprint.proofs.Amounts.{below_negsuc, below_pos}
@@ -35,7 +31,7 @@ use Rattle.ch_nestprint.proofs.Cases.{Each}
 use Rattle.ch_nestprint.proofs.LetsRead.{IsEnd, LetNames, each_also, seen_long}
 use Rattle.ch_nestprint.proofs.NamesRead.{find_kept, find_new, find_none, iterator_is_no_minus, longer_differ, made_long, other_bytes, same_bytes, shorter_differ}
 use Rattle.ch_nestprint.proofs.RightsRead.{LetKnown}
-use Rattle.ch_nestprint.proofs.Seeing.{Given, Passed, Sees, Valued, behind_front, fresh_given, front, given_bind, given_chosen, given_guarded, given_ok, given_other, keyword_given, minus_given, number_given, plain_given, seen_front, sign_given}
+use Rattle.ch_nestprint.proofs.Seeing.{Given, Passed, Sees, Valued, behind_front, fresh_given, front, given_bind, given_chosen, given_guarded, given_ok, given_other, keyword_given, minus_given, plain_given, seen_front, sign_given}
 
 -- cells
 

@@ -1,13 +1,11 @@
 -- A printed form is read as the form.
-use Rattle.std.proofs.Common.{◌≡◌, ℕ, zero, suc, ◌+◌, ◌*◌, ◌<◌, ◌≤◌, ℤ, pos, negsuc, ◌+ℤ◌, ◌*ℤ◌, unsigned_abs, Bool, true, false, not, ◌&&◌, nat_eq, List, [], ◌∷◌, ◌++◌, length, drop, replicate, Option, Some, None, Result, Ok, Err, refl, sym, ap, ◌∙◌, subst, append_assoc, length-append, arith}
-use Rattle.std.specs.Prelude.{neg_ℤ, slice_set}
+use Rattle.std.proofs.Common.{◌≡◌, ℕ, zero, suc, ◌+◌, ◌*◌, ◌<◌, ◌≤◌, ℤ, pos, negsuc, ◌+ℤ◌, ◌*ℤ◌, unsigned_abs, Bool, true, false, nat_eq, List, [], ◌∷◌, ◌++◌, length, drop, Option, Some, None, Result, Ok, refl, sym, ap, ◌∙◌, append_assoc, length-append, arith}
 use Rattle.std.specs.List.{list_all}
-use Rattle.std.proofs.lemmas.Bool.{and_parts, and_from, eqb-true}
-use Rattle.std.proofs.lemmas.Bool.Decides.{nat_tests}
+use Rattle.std.proofs.lemmas.Bool.{and_parts, eqb-true}
 use Rattle.std.proofs.lemmas.Int.{ints}
 use Rattle.std.proofs.lemmas.List.{append-nil}
 use Rattle.std.proofs.lemmas.List.Folds.{list_all-append}
-use Rattle.ch_affine.specs.Combined.{combined, combined_coefs}
+use Rattle.ch_affine.specs.Combined.{combined}
 use Rattle.ch_affine.specs.Form.{Form}
 use Rattle.ch_lex.specs.declared.error.ParseError.{ParseError}
 use Rattle.ch_lex.specs.declared.token.Sign.{Sign}
@@ -19,17 +17,17 @@ use Rattle.ch_nestparse.specs.declared.ahead.Look.{Look}
 use Rattle.ch_nestparse.specs.declared.ahead.Look.TheVariants as looks
 use Rattle.ch_nestparse.specs.declared.part.Part.{Part}
 use Rattle.ch_nestparse.specs.declared.scope.Named.{Named}
-use Rattle.ch_nestparse.specs.declared.scope.Named.TheVariants.{Let, Array, Iterator}
-use Rattle.ch_nestparse.specs.Expressions.{Counted, Reader, Sort, begins_operand, expression, factor_sign, more_factors, more_terms, product, star_after, sum, term_sign, unary}
-use Rattle.ch_nestparse.specs.Forms.{constant_form, form_at, iterator_form, iterator_part, joined_parts, limit, named_part, narrow, number_part, number_part_if, operand_part, parts, plain_part, times}
+use Rattle.ch_nestparse.specs.declared.scope.Named.TheVariants.{Iterator}
+use Rattle.ch_nestparse.specs.Expressions.{Counted, Reader, Sort, begins_operand, expression, factor_sign, more_terms, product, sum, term_sign, unary}
+use Rattle.ch_nestparse.specs.Forms.{constant_form, form_at, iterator_form, joined_parts, named_part, narrow, number_part_if, operand_part, parts, plain_part, times}
 use Rattle.ch_nestparse.specs.Read.{◌>>=◌, Names, find_name, is_sign, next_is, place, seen, text_at}
 use Rattle.ch_nestprint.specs.declared.symbol.Symbol.{Symbol}
-use Rattle.ch_nestprint.specs.declared.symbol.Symbol.TheVariants.{Name, Number, Key, Mark}
-use Rattle.ch_nestprint.specs.Ends.{coef_if, coef_symbols, constant_if, constant_symbols, form_symbols, is_below, is_none, lead, terms_symbols, times_if}
+use Rattle.ch_nestprint.specs.declared.symbol.Symbol.TheVariants.{Name, Number, Mark}
+use Rattle.ch_nestprint.specs.Ends.{coef_if, constant_if, form_symbols, is_below, is_none, lead, terms_symbols, times_if}
 use Rattle.ch_nestprint.specs.Names.{iterator_name}
 use Rattle.ch_nestprint.proofs.Amounts.{IsSmall, all_kept, amount, amount_is, factor_of, iterator_unit, kept, narrow_is, new, none_is, not_wide, nothing, nothing_small, size_small, unit, unit_added, unit_times}
 use Rattle.ch_nestprint.proofs.Reading.{At, Reached, factor_on, operand_given, product_begun, product_ends, sum_begun, sum_ends, term_on}
-use Rattle.ch_nestprint.proofs.Seeing.{Given, Passed, Sees, Valued, behind_front, front, given_bind, given_ok, seen_front, text_front}
+use Rattle.ch_nestprint.proofs.Seeing.{Given, Sees, Valued, behind_front, front, given_bind, given_ok, seen_front, text_front}
 
 -- no product, and no subscript, goes on here
 pub record Calm (rest : List Symbol) : Type 0 where

@@ -1,18 +1,16 @@
 -- The printed head of a loop is read as it was.
-use Rattle.std.proofs.Common.{◌≡◌, ℕ, zero, suc, ◌+◌, ◌<◌, ◌≤◌, ℤ, pos, ◌+ℤ◌, unsigned_abs, Bool, true, false, not, ◌&&◌, nat_eq, List, [], ◌∷◌, ◌++◌, length, map, drop, Option, Some, None, Result, Ok, Err, refl, sym, ap, ◌∙◌, append_assoc, arith}
+use Rattle.std.proofs.Common.{◌≡◌, ℕ, zero, suc, ◌+◌, ◌<◌, ◌≤◌, ℤ, pos, ◌+ℤ◌, unsigned_abs, Bool, true, false, not, ◌&&◌, nat_eq, List, [], ◌∷◌, ◌++◌, length, map, drop, Some, None, Ok, refl, sym, ap, ◌∙◌, append_assoc, arith}
 use Rattle.std.specs.Prelude.{◌-ℤ◌, nat_le}
 use Rattle.std.specs.Str.{bytes_eq}
 use Rattle.std.specs.List.{list_all, flat_map}
-use Rattle.std.proofs.lemmas.Bool.{and_parts, and_from, eqb-true, leb-true}
+use Rattle.std.proofs.lemmas.Bool.{and_parts, eqb-true, leb-true}
 use Rattle.std.proofs.lemmas.Int.{ints}
 use Rattle.std.proofs.lemmas.List.{append-nil}
 use Rattle.ch_affine.specs.Form.{Form}
 use Rattle.ch_affine.specs.declared.system.Range.{Range}
 use Rattle.ch_lex.specs.declared.error.Code2.TheVariants.{P1}
-use Rattle.ch_lex.specs.declared.error.ParseError.{ParseError}
 use Rattle.ch_lex.specs.declared.keyword.Keyword.{Keyword}
 use Rattle.ch_lex.specs.declared.keyword.Keyword.TheVariants as words
-use Rattle.ch_lex.specs.declared.token.Sign.{Sign}
 use Rattle.ch_lex.specs.declared.token.Sign.TheVariants as signs
 use Rattle.ch_lex.specs.declared.token.Token.{Token}
 use Rattle.ch_nest.specs.Limits.{most_affine, most_forms, most_nesting}
@@ -20,20 +18,18 @@ use Rattle.ch_nest.specs.Shape.{are_few, box_of, coefs_fit, head_fits, high_end,
 use Rattle.ch_nestparse.specs.declared.ahead.Look.{Look}
 use Rattle.ch_nestparse.specs.declared.ahead.Look.TheVariants as looks
 use Rattle.ch_nestparse.specs.declared.heads.Ends.{Ends}
-use Rattle.ch_nestparse.specs.declared.scope.Named.{Named}
 use Rattle.ch_nestparse.specs.declared.scope.Named.TheVariants.{Iterator}
-use Rattle.ch_nestparse.specs.Expressions.{factor_sign, term_sign}
+use Rattle.ch_nestparse.specs.Expressions.{term_sign}
 use Rattle.ch_nestparse.specs.Forms.{form_at}
 use Rattle.ch_nestparse.specs.Heads.{Head, bounded, bounded_if, ends_at, head_at, high_at, last_of, low_at, more_at, next_is_comma, same_name_at, several_at, single_at, step_at, strict_if}
-use Rattle.ch_nestparse.specs.Read.{◌>>=◌, Names, Read, begins, choose, find_name, fresh_at, guarded, is_keyword, is_sign, name_at, next_is, place, repeated, seen, sign_at}
+use Rattle.ch_nestparse.specs.Read.{◌>>=◌, Names, begins, find_name, fresh_at, guarded, is_keyword, is_sign, name_at, place, repeated, seen, sign_at}
 use Rattle.ch_nestprint.specs.declared.symbol.Symbol.{Symbol}
 use Rattle.ch_nestprint.specs.declared.symbol.Symbol.TheVariants.{Name, Number, Key, Mark}
-use Rattle.ch_nestprint.specs.Ends.{beginning_symbols, coef_if, comma_end, constant_if, end_symbols, ends_symbols, form_symbols, head_symbols, highs_symbols, is_below, is_none, is_strict, lead, limit_symbols, listed, lows_symbols, raised_if, relation, step_symbols, terms_symbols, times_if}
+use Rattle.ch_nestprint.specs.Ends.{beginning_symbols, coef_if, comma_end, end_symbols, ends_symbols, head_symbols, highs_symbols, is_below, is_none, is_strict, lead, limit_symbols, lows_symbols, raised_if, relation, step_symbols, terms_symbols, times_if}
 use Rattle.ch_nestprint.specs.Names.{iterator_name}
 use Rattle.ch_nestprint.proofs.AllSymbols.{EndFits, highs_end, lows_end}
 use Rattle.ch_nestprint.proofs.FormsRead.{Calm, form_given}
 use Rattle.ch_nestprint.proofs.NamesRead.{same_bytes}
-use Rattle.ch_nestprint.proofs.RightsRead.{Known}
 use Rattle.ch_nestprint.proofs.Seeing.{Given, Passed, Sees, Valued, behind_front, fresh_given, front, given_bind, given_chosen, given_guarded, given_ok, given_other, keyword_same, name_given, seen_front, sign_given}
 
 -- a form begins with no keyword

@@ -1,19 +1,17 @@
 -- Printed loops and assignments are read as they were.
-use Rattle.std.proofs.Common.{◌≡◌, ℕ, zero, suc, ◌+◌, ◌-◌, ◌<◌, ◌≤◌, Bool, true, false, not, ◌&&◌, nat_eq, nat_lt, if◌then◌else◌, cond, List, [], ◌∷◌, ◌++◌, length, map, drop, Option, Some, None, Result, Ok, Err, refl, sym, ap, ◌∙◌, append_assoc, length-append, ltb-true, arith}
+use Rattle.std.proofs.Common.{◌≡◌, ℕ, zero, suc, ◌+◌, ◌<◌, ◌≤◌, Bool, true, false, not, ◌&&◌, nat_eq, nat_lt, if◌then◌else◌, List, [], ◌∷◌, ◌++◌, length, map, drop, Option, Some, None, Ok, refl, sym, ap, ◌∙◌, append_assoc, length-append, ltb-true, arith}
 use Rattle.std.specs.Prelude.{nat_le, neg_ℤ, pos}
 use Rattle.std.specs.List.{flat_map, list_all}
-use Rattle.std.proofs.lemmas.Bool.{and_parts, and_from, eqb-true, leb-true}
-use Rattle.std.proofs.lemmas.Bool.Decides.{nat_tests}
+use Rattle.std.proofs.lemmas.Bool.{and_parts, eqb-true, leb-true}
 use Rattle.std.proofs.lemmas.List.{append-nil}
 use Rattle.ch_affine.specs.Form.{Form}
 use Rattle.ch_affine.specs.declared.system.Range.{Range}
 use Rattle.ch_lex.specs.declared.error.Code2.TheVariants.{P1, P5}
-use Rattle.ch_lex.specs.declared.error.ParseError.{ParseError}
 use Rattle.ch_lex.specs.declared.keyword.Keyword.TheVariants as words
 use Rattle.ch_lex.specs.declared.token.Sign.TheVariants as signs
 use Rattle.ch_lex.specs.declared.token.Token.{Token}
 use Rattle.ch_nest.specs.Limits.{deepest, most_nesting, most_operands, most_statements}
-use Rattle.ch_nest.specs.Shape.{access_fits, after, all_numbered, body_fits, box_of, each_numbered, expr_fits, has_dimensions, head_fits, is_array, is_small, item_fits, item_fits_step, items_fit, nested, numbered, numbered_step, operands, parts_fit, sub_fits}
+use Rattle.ch_nest.specs.Shape.{access_fits, after, all_numbered, body_fits, box_of, expr_fits, has_dimensions, head_fits, is_array, is_small, item_fits, item_fits_step, items_fit, nested, numbered, numbered_step, operands, parts_fit, sub_fits}
 use Rattle.ch_nest.specs.declared.exprs.Standing.TheVariants.{Term}
 use Rattle.ch_nest.specs.declared.nest.Access.{Access}
 use Rattle.ch_nest.specs.declared.nest.ArrayDecl.{ArrayDecl}
@@ -22,15 +20,14 @@ use Rattle.ch_nest.specs.declared.nest.Expr.{Expr}
 use Rattle.ch_nest.specs.declared.nest.Item.{Item}
 use Rattle.ch_nest.specs.declared.nest.Item.TheVariants.{Loop, Assign}
 use Rattle.ch_nestparse.specs.declared.ahead.Look.{Look}
-use Rattle.ch_nestparse.specs.declared.ahead.Look.TheVariants as looks
 use Rattle.ch_nestparse.specs.declared.scope.Named.{Named}
 use Rattle.ch_nestparse.specs.declared.scope.Named.TheVariants.{Let, Array, Iterator}
 use Rattle.ch_nestparse.specs.Heads.{Head, head_at}
 use Rattle.ch_nestparse.specs.Items.{Items, assign_at, body_at, is_more, item_at, items_at, loop_at, written}
-use Rattle.ch_nestparse.specs.Read.{◌>>=◌, Names, Read, begins, choose, find_name, is_keyword, is_sign, name_at, next_is, place, refused, repeated, seen, sign_at}
+use Rattle.ch_nestparse.specs.Read.{◌>>=◌, Names, begins, choose, find_name, is_keyword, is_sign, name_at, next_is, place, refused, repeated, sign_at}
 use Rattle.ch_nestparse.specs.Rights.{access_at, right_at}
 use Rattle.ch_nestprint.specs.declared.symbol.Symbol.{Symbol}
-use Rattle.ch_nestprint.specs.declared.symbol.Symbol.TheVariants.{Name, Number, Key, Mark}
+use Rattle.ch_nestprint.specs.declared.symbol.Symbol.TheVariants.{Name, Key, Mark}
 use Rattle.ch_nestprint.specs.Ends.{head_symbols}
 use Rattle.ch_nestprint.specs.Minus.{minus_in, minus_in_item, minus_in_items, minus_item_step}
 use Rattle.ch_nestprint.specs.Names.{array_name, iterator_name, minus_name}
@@ -39,9 +36,8 @@ use Rattle.ch_nestprint.specs.Sides.{access_symbols, right_symbols, sub_symbols}
 use Rattle.ch_nestprint.proofs.Cases.{Each, by_items, each_item, fold_assign, fold_loop}
 use Rattle.ch_nestprint.proofs.HeadsRead.{head_given}
 use Rattle.ch_nestprint.proofs.NamesRead.{find_kept, known_deeper}
-use Rattle.ch_nestprint.proofs.FormsRead.{Calm}
 use Rattle.ch_nestprint.proofs.RightsRead.{Known, LetKnown, access_given, each_left, each_right, right_given}
-use Rattle.ch_nestprint.proofs.Seeing.{Given, Passed, Sees, Valued, behind_front, front, given_bind, given_chosen, given_ok, given_other, keyword_same, name_given, seen_front, sign_given}
+use Rattle.ch_nestprint.proofs.Seeing.{Given, Passed, Sees, Valued, behind_front, front, given_bind, given_chosen, given_ok, given_other, name_given, seen_front, sign_given}
 
 -- labels
 

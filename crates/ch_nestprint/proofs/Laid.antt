@@ -1,5 +1,5 @@
 -- The tokens of symbols that are laid out as text are these symbols.
-use Rattle.std.proofs.Common.{◌≡◌, ℕ, zero, suc, ◌+◌, ◌-◌, ◌*◌, ◌<◌, ◌≤◌, Bool, true, false, not, ◌&&◌, ◌||◌, if◌then◌else◌, List, [], ◌∷◌, ◌++◌, length, map, drop, take, get_or, replicate, Option, Some, None, Result, Ok, Err, refl, sym, ap, ◌∙◌, add-one, append_assoc, length-append, arith}
+use Rattle.std.proofs.Common.{◌≡◌, ℕ, zero, suc, ◌+◌, ◌-◌, ◌*◌, ◌<◌, Bool, true, false, ◌&&◌, ◌||◌, List, [], ◌∷◌, ◌++◌, length, map, take, get_or, replicate, Some, Ok, refl, ap, ◌∙◌, append_assoc, arith}
 use Rattle.std.specs.Prelude.{is_none, nat_lt, nat_le, take_while, ◌==◌}
 use Rattle.std.specs.List.{list_all, prefix_len}
 use Rattle.std.specs.Int.Digits.{digits_of, AllBelowBase, number_from_digits}
@@ -7,27 +7,24 @@ use Rattle.std.proofs.lemmas.Int.Digits.{all_below_base_digits_of, number_digits
 use Rattle.std.proofs.Math.Seq.{drop-append_seam, take-append_seam}
 use Rattle.std.proofs.lemmas.Bool.{and_parts, and_from}
 use Rattle.std.proofs.lemmas.Bool.Decides.{nat_tests}
-use Rattle.ch_lex.specs.Bytes.{begins, is_ascii, is_blank, is_comment, is_digit, is_hash, is_letter, is_word, number_of}
+use Rattle.ch_lex.specs.Bytes.{begins, is_blank, is_digit, is_hash, is_letter, is_word, number_of}
 use Rattle.ch_lex.specs.Keywords.{keyword_of, keyword_text}
 use Rattle.ch_lex.specs.Signs.{sign_text}
-use Rattle.ch_lex.specs.Tokens.{begun, joined, most_number, number_front, sign_front, small_number, tokens_from, with_token}
-use Rattle.ch_lex.specs.declared.ahead.Front.{Front}
-use Rattle.ch_lex.specs.declared.ahead.Front.TheVariants.{Gap, Piece, NotAscii, BadByte, NumberTooLarge}
-use Rattle.ch_lex.specs.declared.error.LexError.{LexError}
+use Rattle.ch_lex.specs.Tokens.{begun, most_number, sign_front, small_number, tokens_from, with_token}
+use Rattle.ch_lex.specs.declared.ahead.Front.TheVariants.{Piece}
 use Rattle.ch_lex.specs.declared.keyword.Keyword.{Keyword}
 use Rattle.ch_lex.specs.declared.keyword.Keyword.TheVariants as words
 use Rattle.ch_lex.specs.declared.token.Kind.{Kind}
 use Rattle.ch_lex.specs.declared.token.Kind.TheVariants as kinds
 use Rattle.ch_lex.specs.declared.token.Sign.{Sign}
 use Rattle.ch_lex.specs.declared.token.Sign.TheVariants.{LeftParen, RightParen, LeftBracket, RightBracket, LeftBrace, RightBrace, Comma, Semicolon, Plus, Minus, Star, Equals, Less, AtMost, More, AtLeast, Increment}
-use Rattle.ch_lex.specs.declared.token.Token.{Token}
 use Rattle.ch_lex.proofs.Pieces.{passed}
 use Rattle.ch_print.specs.Numbers.{digit_text, number_text}
 use Rattle.ch_nestprint.specs.declared.layout.Layout.{Layout}
 use Rattle.ch_nestprint.specs.declared.symbol.Symbol.{Symbol}
 use Rattle.ch_nestprint.specs.declared.symbol.Symbol.TheVariants.{Name, Number, Key, Mark}
 use Rattle.ch_nestprint.specs.Cuts.{is_symbol, kind_of, tokens_at}
-use Rattle.ch_nestprint.specs.Layouts.{blank_if, ends_line, first_layout, gap, gap_if, is_tight_before, layout_after, may_go_on, new_line, spell, symbol_text}
+use Rattle.ch_nestprint.specs.Layouts.{blank_if, gap, gap_if, is_tight_before, layout_after, spell, symbol_text}
 
 -- gaps
 

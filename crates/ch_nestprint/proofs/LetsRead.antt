@@ -1,25 +1,21 @@
 -- Printed lets are read, each under a new name.
-use Rattle.std.proofs.Common.{◌≡◌, ℕ, zero, suc, ◌+◌, ◌<◌, ◌≤◌, ℤ, pos, Bool, true, false, not, ◌&&◌, ◌||◌, nat_eq, List, [], ◌∷◌, ◌++◌, length, map, drop, Option, Some, None, Result, Ok, Err, refl, sym, ap, ◌∙◌, append_assoc, length-append, subst, eq-eqb, arith}
+use Rattle.std.proofs.Common.{◌≡◌, ℕ, zero, suc, ◌≤◌, ℤ, pos, Bool, true, false, ◌||◌, nat_eq, List, [], ◌∷◌, ◌++◌, length, None, Ok, refl, sym, ap, ◌∙◌, append_assoc, length-append, subst, eq-eqb, arith}
 use Rattle.std.specs.Prelude.{neg_ℤ}
 use Rattle.std.specs.Str.{bytes_eq}
 use Rattle.std.specs.List.{list_any}
 use Rattle.std.proofs.lemmas.Bool.{eqb-true}
 use Rattle.std.proofs.lemmas.List.{append-nil, length-map}
 use Rattle.ch_lex.specs.declared.error.Code2.TheVariants.{P1}
-use Rattle.ch_lex.specs.declared.error.ParseError.{ParseError}
 use Rattle.ch_lex.specs.declared.keyword.Keyword.{Keyword}
 use Rattle.ch_lex.specs.declared.keyword.Keyword.TheVariants as words
 use Rattle.ch_lex.specs.declared.token.Sign.TheVariants as signs
 use Rattle.ch_lex.specs.declared.token.Token.{Token}
-use Rattle.ch_nestparse.specs.declared.ahead.Look.{Look}
-use Rattle.ch_nestparse.specs.declared.ahead.Look.TheVariants as looks
 use Rattle.ch_nestparse.specs.declared.scope.Named.{Named}
-use Rattle.ch_nestparse.specs.declared.scope.Named.TheVariants.{Let, Array, Iterator}
+use Rattle.ch_nestparse.specs.declared.scope.Named.TheVariants.{Let}
 use Rattle.ch_nestparse.specs.Declarations.{begins_let, let_at, lets_at}
-use Rattle.ch_nestparse.specs.Read.{◌>>=◌, Names, Read, begins, choose, find_name, fresh_at, integer_at, is_keyword, keyword_at, repeated, seen, sign_at}
+use Rattle.ch_nestparse.specs.Read.{◌>>=◌, Names, find_name, fresh_at, integer_at, is_keyword, keyword_at, repeated, sign_at}
 use Rattle.ch_nestprint.specs.declared.symbol.Symbol.{Symbol}
-use Rattle.ch_nestprint.specs.declared.symbol.Symbol.TheVariants.{Name, Number, Key, Mark}
-use Rattle.ch_nestprint.specs.Cuts.{symbol_of}
+use Rattle.ch_nestprint.specs.declared.symbol.Symbol.TheVariants.{Name, Number, Mark}
 use Rattle.ch_nestprint.specs.Names.{minus_name}
 use Rattle.ch_nestprint.specs.Printed.{let_if, let_symbols, lets_symbols}
 use Rattle.ch_nestprint.proofs.Cases.{Each}

@@ -1,20 +1,19 @@
 -- The names of a printed program are new where they are declared, and are found from there on.
-use Rattle.std.proofs.Common.{◌≡◌, ℕ, zero, suc, ◌+◌, ◌<◌, ◌≤◌, Bool, true, false, List, [], ◌∷◌, ◌++◌, length, replicate, Option, Some, None, codes, cond, nat_lt, ltb-true, refl, sym, ap, ◌∙◌, append_assoc, length-append, arith}
+use Rattle.std.proofs.Common.{◌≡◌, ℕ, ◌+◌, ◌<◌, ◌≤◌, Bool, true, false, List, [], ◌∷◌, ◌++◌, length, replicate, Option, Some, None, codes, cond, nat_lt, ltb-true, refl, ap, ◌∙◌, length-append, arith}
 use Rattle.std.specs.Str.{bytes_eq}
 use Rattle.std.proofs.lemmas.Bool.{false_from_ne_true}
 use Rattle.std.proofs.lemmas.Bool.Decides.{nat_tests}
 use Rattle.std.proofs.lemmas.List.{append_cancel_left, length-replicate}
 use Rattle.std.proofs.lemmas.Slice.Eq.{bytes_eq-Decides}
-use Rattle.ch_nest.specs.Shape.{has_dimensions}
 use Rattle.ch_nest.specs.declared.nest.ArrayDecl.{ArrayDecl}
 use Rattle.ch_nestparse.specs.declared.scope.Named.{Named}
-use Rattle.ch_nestparse.specs.declared.scope.Named.TheVariants.{Let, Array, Iterator}
+use Rattle.ch_nestparse.specs.declared.scope.Named.TheVariants.{Array, Iterator}
 use Rattle.ch_nestparse.specs.Read.{Names, find_name}
 use Rattle.ch_print.specs.Numbers.{number_text}
 use Rattle.ch_print.proofs.Readback.{same_number}
 use Rattle.ch_nestprint.specs.Names.{array_name, iterator_name, made_name, minus_name}
 use Rattle.ch_nestprint.proofs.Laid.{some_digits}
-use Rattle.ch_nestprint.proofs.RightsRead.{Known, LetKnown}
+use Rattle.ch_nestprint.proofs.RightsRead.{Known}
 
 pub same_bytes : (xs : List ℕ) → bytes_eq xs xs ≡ true
 same_bytes xs = (bytes_eq-Decides xs xs).1 refl

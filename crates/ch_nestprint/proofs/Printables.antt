@@ -1,6 +1,5 @@
 -- Every program that was parsed is printable.
-use Rattle.std.proofs.Common.{◌≡◌, ℕ, ◌-◌, List, drop, length, Result, Ok, Err, refl, sym, ap, ◌∙◌, subst}
-use Rattle.std.specs.Bool.{IsTrue}
+use Rattle.std.proofs.Common.{◌≡◌, ℕ, ◌-◌, List, drop, length, Result, Ok, Err, refl, subst}
 use Rattle.ch_lex.specs.Cut.{IsCut}
 use Rattle.ch_lex.specs.declared.error.ParseError.{ParseError}
 use Rattle.ch_lex.specs.declared.token.Token.{Token}

@@ -1,12 +1,10 @@
 -- A printed program is read as the program.
-use Rattle.std.proofs.Common.{◌≡◌, ℕ, zero, suc, ◌+◌, ◌<◌, ◌≤◌, Bool, true, false, not, ◌&&◌, List, [], ◌∷◌, ◌++◌, length, map, drop, Option, Some, None, Result, Ok, Err, refl, sym, ap, ◌∙◌, append_assoc, arith}
+use Rattle.std.proofs.Common.{◌≡◌, ℕ, true, false, ◌&&◌, List, [], ◌∷◌, ◌++◌, Option, Some, None, Ok, refl, ap, ◌∙◌, append_assoc, arith}
 use Rattle.std.specs.Prelude.{is_some, nat_le}
 use Rattle.std.specs.Bool.{IsTrue}
 use Rattle.std.specs.List.{list_all}
 use Rattle.std.proofs.lemmas.Bool.{and_parts, leb-true}
-use Rattle.ch_lex.specs.Tokens.{tokens_of}
 use Rattle.ch_lex.specs.declared.error.Code2.TheVariants.{P1}
-use Rattle.ch_lex.specs.declared.error.ParseError.{ParseError}
 use Rattle.ch_lex.specs.declared.keyword.Keyword.{Keyword}
 use Rattle.ch_lex.specs.declared.keyword.Keyword.TheVariants as words
 use Rattle.ch_lex.specs.declared.token.Sign.TheVariants as signs
@@ -18,22 +16,20 @@ use Rattle.ch_nest.specs.Shape.{all_numbered, arrays_fit, is_array, is_nest, ite
 use Rattle.ch_nest.specs.declared.nest.ArrayDecl.{ArrayDecl}
 use Rattle.ch_nest.specs.declared.nest.Fill.{Fill}
 use Rattle.ch_nest.specs.declared.nest.Item.{Item}
-use Rattle.ch_nestparse.specs.declared.ahead.Look.{Look}
 use Rattle.ch_nestparse.specs.declared.ahead.Look.TheVariants as looks
-use Rattle.ch_nestparse.specs.declared.declarations.Declared.{Declared}
 use Rattle.ch_nestparse.specs.Declarations.{arrays_at, lets_at}
 use Rattle.ch_nestparse.specs.Items.{Items, item_at, items_at}
-use Rattle.ch_nestparse.specs.Read.{◌>>=◌, Names, Read, is_keyword, keyword_at, name_at, sign_at}
+use Rattle.ch_nestparse.specs.Read.{is_keyword, keyword_at, name_at, sign_at}
 use Rattle.ch_nestparse.specs.Sections.{Section, section_at}
 use Rattle.ch_nestprint.specs.declared.symbol.Symbol.{Symbol}
-use Rattle.ch_nestprint.specs.declared.symbol.Symbol.TheVariants.{Name, Number, Key, Mark}
+use Rattle.ch_nestprint.specs.declared.symbol.Symbol.TheVariants.{Name, Key, Mark}
 use Rattle.ch_nestprint.specs.Back.{IsReadAs}
-use Rattle.ch_nestprint.specs.Cuts.{Shows, symbol_of}
+use Rattle.ch_nestprint.specs.Cuts.{Shows}
 use Rattle.ch_nestprint.specs.Minus.{minus_in_items}
 use Rattle.ch_nestprint.specs.Names.{longest}
 use Rattle.ch_nestprint.specs.Printable.{IsPrintable}
 use Rattle.ch_nestprint.specs.Printed.{arrays_symbols, item_step, item_symbols, items_symbols, lets_symbols, program_symbols}
-use Rattle.ch_nestprint.proofs.ArraysRead.{ArraysAfter, Placed, arrays_given}
+use Rattle.ch_nestprint.proofs.ArraysRead.{ArraysAfter, arrays_given}
 use Rattle.ch_nestprint.proofs.Cases.{by_items, fold_assign, fold_loop}
 use Rattle.ch_nestprint.proofs.ItemsRead.{items_given}
 use Rattle.ch_nestprint.proofs.LetsRead.{IsEnd, LetsAfter, lets_given}

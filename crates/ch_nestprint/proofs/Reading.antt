@@ -1,9 +1,8 @@
 -- Reading expressions of either sort from tokens that show known symbols: operands, products and sums, one part at a time.
-use Rattle.std.proofs.Common.{◌≡◌, ℕ, zero, suc, ◌+◌, ◌<◌, ◌≤◌, Bool, true, false, ◌&&◌, nat_lt, List, [], ◌∷◌, ◌++◌, drop, Option, Some, None, Result, Ok, Err, refl, sym, ap, ◌∙◌, subst, arith}
+use Rattle.std.proofs.Common.{◌≡◌, ℕ, zero, suc, ◌+◌, ◌<◌, ◌≤◌, true, ◌&&◌, nat_lt, List, ◌∷◌, drop, Option, Some, None, Ok, refl, ap, ◌∙◌, arith}
 use Rattle.std.proofs.lemmas.Bool.{and_from}
 use Rattle.std.proofs.lemmas.Bool.Decides.{nat_tests}
 use Rattle.ch_lex.specs.declared.error.Code2.TheVariants.{P1}
-use Rattle.ch_lex.specs.declared.error.ParseError.{ParseError}
 use Rattle.ch_lex.specs.declared.token.Sign.{Sign}
 use Rattle.ch_lex.specs.declared.token.Sign.TheVariants as signs
 use Rattle.ch_lex.specs.declared.token.Token.{Token}
@@ -13,10 +12,10 @@ use Rattle.ch_nestparse.specs.declared.ahead.Look.TheVariants as looks
 use Rattle.ch_nestparse.specs.declared.ahead.Opening.{Opening}
 use Rattle.ch_nestparse.specs.declared.ahead.Opening.TheVariants as openings
 use Rattle.ch_nestparse.specs.Expressions.{Counted, Reader, Sort, begins_operand, behind, behind_minus, between_parens, chain, counted_operand, factor, factor_sign, more_factors, more_terms, opened, opening, product, star_after, step, sum, term, term_sign, unary}
-use Rattle.ch_nestparse.specs.Read.{◌>>=◌, Read, guarded, place, seen, sign_at}
+use Rattle.ch_nestparse.specs.Read.{◌>>=◌, place, seen, sign_at}
 use Rattle.ch_nestprint.specs.declared.symbol.Symbol.{Symbol}
-use Rattle.ch_nestprint.specs.declared.symbol.Symbol.TheVariants.{Name, Number, Key, Mark}
-use Rattle.ch_nestprint.proofs.Seeing.{Given, Sees, Valued, Passed, front, given_bind, given_guarded, given_ok, behind_front, seen_front, sign_given}
+use Rattle.ch_nestprint.specs.declared.symbol.Symbol.TheVariants.{Mark}
+use Rattle.ch_nestprint.proofs.Seeing.{Given, Sees, Passed, front, given_bind, given_guarded, given_ok, behind_front, seen_front, sign_given}
 
 chain_stop : {X : Type 0} (ahead : X × ℕ × List Token → Option Sign) (one : Sign → X × ℕ × List Token → Counted X) (k : ℕ) (x : X × ℕ × List Token) → ahead x ≡ None → chain ahead one k x ≡ Ok x
 unfolding chain

@@ -1,12 +1,11 @@
 -- Printed accesses and right sides are read as they were.
-use Rattle.std.proofs.Common.{◌≡◌, ℕ, zero, suc, ◌+◌, ◌<◌, ◌≤◌, ℤ, pos, negsuc, unsigned_abs, Bool, true, false, not, ◌&&◌, nat_eq, nat_lt, List, [], ◌∷◌, ◌++◌, length, drop, Option, Some, None, Result, Ok, Err, refl, sym, ap, ◌∙◌, subst, append_assoc, ltb-true, arith}
+use Rattle.std.proofs.Common.{◌≡◌, ℕ, zero, suc, ◌+◌, ◌<◌, ◌≤◌, ℤ, pos, negsuc, Bool, true, false, not, ◌&&◌, nat_eq, nat_lt, List, [], ◌∷◌, ◌++◌, length, drop, Option, Some, None, Ok, refl, sym, ap, ◌∙◌, append_assoc, ltb-true, arith}
 use Rattle.std.specs.Prelude.{neg_ℤ, nat_le}
 use Rattle.std.specs.List.{list_all, flat_map}
-use Rattle.std.proofs.lemmas.Bool.{and_parts, and_from, eqb-true, leb-true, false≢true}
+use Rattle.std.proofs.lemmas.Bool.{and_parts, eqb-true, leb-true, false≢true}
 use Rattle.std.proofs.lemmas.List.{append-nil}
 use Rattle.ch_affine.specs.Form.{Form}
 use Rattle.ch_lex.specs.declared.error.Code2.TheVariants.{P1}
-use Rattle.ch_lex.specs.declared.error.ParseError.{ParseError}
 use Rattle.ch_lex.specs.declared.token.Sign.{Sign}
 use Rattle.ch_lex.specs.declared.token.Sign.TheVariants as signs
 use Rattle.ch_lex.specs.declared.token.Token.{Token}
@@ -23,18 +22,18 @@ use Rattle.ch_nestparse.specs.declared.ahead.Look.{Look}
 use Rattle.ch_nestparse.specs.declared.ahead.Look.TheVariants as looks
 use Rattle.ch_nestparse.specs.declared.scope.Named.{Named}
 use Rattle.ch_nestparse.specs.declared.scope.Named.TheVariants.{Let, Array, Iterator}
-use Rattle.ch_nestparse.specs.Expressions.{Counted, Reader, Sort, begins_operand, expression, factor_sign, more_factors, more_terms, product, star_after, sum, term_sign, unary}
+use Rattle.ch_nestparse.specs.Expressions.{Sort, begins_operand, factor_sign, more_factors, more_terms, product, star_after, sum, term_sign, unary}
 use Rattle.ch_nestparse.specs.Forms.{form_at}
-use Rattle.ch_nestparse.specs.Read.{◌>>=◌, Names, Read, find_name, guarded, is_sign, next_is, place, repeated, seen, sign_at, text_at}
-use Rattle.ch_nestparse.specs.Rights.{access_at, access_right, always, joined_right, named_right, negated_right, operand_right, plain_right, right_at, rights, sub_at}
+use Rattle.ch_nestparse.specs.Read.{◌>>=◌, Names, find_name, guarded, is_sign, next_is, place, repeated, seen, sign_at, text_at}
+use Rattle.ch_nestparse.specs.Rights.{access_at, access_right, always, joined_right, named_right, operand_right, plain_right, right_at, rights, sub_at}
 use Rattle.ch_nestparse.proofs.Nesting.{fold_add, fold_iter, fold_mul, fold_neg, fold_number, fold_read, fold_sub, inside_suc}
 use Rattle.ch_nestprint.specs.declared.symbol.Symbol.{Symbol}
-use Rattle.ch_nestprint.specs.declared.symbol.Symbol.TheVariants.{Name, Number, Key, Mark}
-use Rattle.ch_nestprint.specs.Ends.{form_symbols, is_below}
+use Rattle.ch_nestprint.specs.declared.symbol.Symbol.TheVariants.{Name, Number, Mark}
+use Rattle.ch_nestprint.specs.Ends.{form_symbols}
 use Rattle.ch_nestprint.specs.Minus.{minus_in, minus_step, size_if}
 use Rattle.ch_nestprint.specs.Names.{array_name, iterator_name, minus_name}
 use Rattle.ch_nestprint.specs.Sides.{access_symbols, constant_symbol, joined_symbols, right_step, right_symbols, sub_symbols}
-use Rattle.ch_nestprint.proofs.Amounts.{IsSmall, amount, amount_is, below_negsuc, below_pos}
+use Rattle.ch_nestprint.proofs.Amounts.{below_negsuc, below_pos}
 use Rattle.ch_nestprint.proofs.Cases.{Each, by_exprs}
 use Rattle.ch_nestprint.proofs.FormsRead.{Calm, form_given}
 use Rattle.ch_nestprint.proofs.Reading.{At, Reached, factor_on, minus_read, operand_given, parens_read, product_begun, product_ends, sum_begun, sum_ends, term_on}

@@ -1,8 +1,6 @@
 -- Reading tokens that show known symbols: what the readers of single tokens give.
-use Rattle.std.proofs.Common.{◌≡◌, ℕ, zero, suc, ◌+◌, ◌-◌, ◌≤◌, ℤ, pos, Bool, true, false, List, [], ◌∷◌, ◌++◌, length, map, drop, min, Option, Some, None, Result, Ok, Err, refl, sym, ap, ◌∙◌, subst, eq-eqb, arith}
+use Rattle.std.proofs.Common.{◌≡◌, ℕ, pos, Bool, true, false, List, [], ◌∷◌, map, drop, Option, Some, None, Result, Ok, refl, sym, ap, ◌∙◌, eq-eqb}
 use Rattle.std.specs.Prelude.{neg_ℤ, ◌==◌}
-use Rattle.std.specs.Str.{bytes_eq}
-use Rattle.std.proofs.lemmas.Bool.{and_parts}
 use Rattle.ch_lex.specs.declared.error.Code2.{Code2}
 use Rattle.ch_lex.specs.declared.error.Code2.TheVariants.{P1, P3}
 use Rattle.ch_lex.specs.declared.error.ParseError.{ParseError}
@@ -13,10 +11,10 @@ use Rattle.ch_lex.specs.declared.token.Kind.TheVariants as kinds
 use Rattle.ch_lex.specs.declared.token.Sign.{Sign}
 use Rattle.ch_lex.specs.declared.token.Sign.TheVariants as signs
 use Rattle.ch_lex.specs.declared.token.Token.{Token}
-use Rattle.ch_lex.specs.Keywords.{keyword_of, keyword_text}
+use Rattle.ch_lex.specs.Keywords.{keyword_of}
 use Rattle.ch_nestparse.specs.declared.ahead.Look.{Look}
 use Rattle.ch_nestparse.specs.declared.ahead.Look.TheVariants as looks
-use Rattle.ch_nestparse.specs.Read.{◌>>=◌, Names, Read, begins, choose, find_name, fresh_at, guarded, integer_at, is_keyword, is_new, is_sign, keyword_at, kind_look, name_at, name_if, next_is, number_at, number_if, place, seen, sign_at, sign_index, text_at, text_of, word_look}
+use Rattle.ch_nestparse.specs.Read.{◌>>=◌, Names, begins, choose, find_name, fresh_at, guarded, integer_at, is_keyword, is_new, is_sign, keyword_at, kind_look, name_at, name_if, next_is, number_at, number_if, place, seen, sign_at, sign_index, text_at, text_of, word_look}
 use Rattle.ch_nestprint.specs.declared.symbol.Symbol.{Symbol}
 use Rattle.ch_nestprint.specs.declared.symbol.Symbol.TheVariants.{Name, Number, Key, Mark}
 use Rattle.ch_nestprint.specs.Cuts.{symbol_of, symbol_of_look}

@@ -1,5 +1,5 @@
 -- The text of a list of symbols, one symbol further.
-use Rattle.std.proofs.Common.{◌≡◌, ℕ, ◌+◌, ◌<◌, List, [], ◌∷◌, ◌++◌, get_or, length, drop, refl, sym, ap, ◌∙◌, append_assoc, arith}
+use Rattle.std.proofs.Common.{◌≡◌, ℕ, ◌+◌, ◌<◌, List, ◌++◌, get_or, length, drop, refl, append_assoc}
 use Rattle.std.specs.Bool.{IsTrue}
 use Rattle.std.specs.Char.{is_ascii}
 use Rattle.std.specs.List.{list_all}
@@ -9,7 +9,7 @@ use Rattle.ch_lex.specs.declared.keyword.Keyword.{Keyword}
 use Rattle.ch_lex.specs.declared.keyword.Keyword.TheVariants.{Program, Recipe, Session, Client, Let, Array, Fill, For, Max, Min, Param, To, Step, Call, Machine, Eager, Patient}
 use Rattle.ch_nestprint.specs.declared.layout.Layout.{Layout}
 use Rattle.ch_nestprint.specs.declared.symbol.Symbol.{Symbol}
-use Rattle.ch_nestprint.specs.Layouts.{first_layout, gap, layout_after, spell, symbol_text}
+use Rattle.ch_nestprint.specs.Layouts.{gap, layout_after, spell, symbol_text}
 
 pub keyword_ascii : (k : Keyword) → IsTrue (list_all is_ascii (keyword_text k))
 keyword_ascii Program = refl

@@ -1,17 +1,13 @@
 -- Each symbol of a printed program is a token of the language: names.
-use Rattle.std.proofs.Common.{◌≡◌, ℕ, zero, suc, ◌+◌, ◌<◌, ◌≤◌, Bool, true, false, ◌&&◌, ◌||◌, List, [], ◌∷◌, ◌++◌, length, map, replicate, Option, Some, None, refl, sym, ap, ◌∙◌, codes, arith}
-use Rattle.std.specs.Prelude.{slice_get}
+use Rattle.std.proofs.Common.{◌≡◌, ℕ, zero, suc, Bool, true, false, ◌||◌, List, [], ◌∷◌, ◌++◌, replicate, refl, codes}
 use Rattle.std.specs.List.{list_all, flat_map}
-use Rattle.std.specs.Option.{option_map_or}
 use Rattle.std.proofs.lemmas.Bool.{and_parts, and_from}
 use Rattle.std.proofs.lemmas.List.Folds.{list_all-append}
-use Rattle.ch_lex.specs.Bytes.{begins, is_digit, is_letter, is_word}
+use Rattle.ch_lex.specs.Bytes.{is_digit, is_letter, is_word}
 use Rattle.ch_lex.specs.Keywords.{keyword_of}
 use Rattle.ch_nest.specs.declared.nest.ArrayDecl.{ArrayDecl}
 use Rattle.ch_nest.specs.Shape.{has_dimensions}
 use Rattle.ch_print.specs.Numbers.{number_text}
-use Rattle.ch_nestprint.specs.declared.symbol.Symbol.{Symbol}
-use Rattle.ch_nestprint.specs.Cuts.{is_symbol}
 use Rattle.ch_nestprint.specs.Names.{array_name, iterator_name, minus_name}
 use Rattle.ch_nestparse.specs.Spelling.{is_name, is_named}
 use Rattle.ch_nestprint.proofs.Laid.{all_digits}

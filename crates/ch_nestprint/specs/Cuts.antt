@@ -1,5 +1,5 @@
 -- The tokens of a printed program, as symbols.
-use Rattle.std.specs.Prelude.{◌≡◌, Ok, ℕ, zero, suc, ◌+◌, nat_le, Bool, true, false, not, ◌&&◌, List, [], ◌∷◌, length, map, Option, Some, None}
+use Rattle.std.specs.Prelude.{◌≡◌, Ok, ℕ, ◌+◌, nat_le, Bool, true, List, [], ◌∷◌, length, map}
 use Rattle.ch_lex.specs.Tokens.{most_number, tokens_of}
 use Rattle.ch_lex.specs.declared.token.Kind.{Kind}
 use Rattle.ch_lex.specs.declared.token.Kind.TheVariants as kinds
@@ -11,7 +11,7 @@ use Rattle.ch_nestparse.specs.declared.ahead.Look.TheVariants as looks
 use Rattle.ch_nestprint.specs.declared.layout.Layout.{Layout}
 use Rattle.ch_nestprint.specs.declared.symbol.Symbol.{Symbol}
 use Rattle.ch_nestprint.specs.declared.symbol.Symbol.TheVariants.{Name, Number, Key, Mark}
-use Rattle.ch_nestprint.specs.Layouts.{first_layout, gap, layout_after, symbol_text}
+use Rattle.ch_nestprint.specs.Layouts.{gap, layout_after, symbol_text}
 
 -- a symbol that is a token of the language: its name is a name, its number isn't too large
 abbrev pub is_symbol : Symbol → Bool

@@ -1,7 +1,6 @@
 -- The symbols of a program, and its text.
 use Rattle.std.specs.Prelude.{ℕ, suc, ℤ, unsigned_abs, Bool, true, false, List, [], ◌∷◌, ◌++◌, map, nat_eq}
 use Rattle.std.specs.List.{flat_map, list_any}
-use Rattle.ch_affine.specs.Form.{Form}
 use Rattle.ch_lex.specs.declared.keyword.Keyword.TheVariants as words
 use Rattle.ch_lex.specs.declared.token.Sign.TheVariants as signs
 use Rattle.ch_nest.specs.LoopNest.{LoopNest}

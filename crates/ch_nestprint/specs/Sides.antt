@@ -1,5 +1,5 @@
 -- Accesses, and right sides with the fewest parentheses.
-use Rattle.std.specs.Prelude.{ℕ, ℤ, pos, int_lt, unsigned_abs, Bool, true, false, not, List, [], ◌∷◌, ◌++◌}
+use Rattle.std.specs.Prelude.{ℕ, unsigned_abs, Bool, true, false, not, List, [], ◌∷◌, ◌++◌}
 use Rattle.std.specs.List.{flat_map}
 use Rattle.ch_lex.specs.declared.token.Sign.{Sign}
 use Rattle.ch_lex.specs.declared.token.Sign.TheVariants as signs
