@@ -26,7 +26,7 @@ pub enum Look {
 
 /// What stands where an operand may stand.
 #[derive(Clone, Copy, Debug)]
-pub(crate) enum Opening {
+pub enum Opening {
     Minus,
     Paren,
     Operand,

@@ -219,7 +219,7 @@ fn fill<'a>(bytes: &[u8], tokens: &'a [Token]) -> Result<(Fill, &'a [Token]), Pa
 
 /// The names in force, the arrays, how they start, and how many cells they have together.
 #[derive(Drop)]
-pub(crate) struct Declared {
+pub struct Declared {
     pub names: Names,
     pub arrays: List<ArrayDecl>,
     pub fills: List<Fill>,

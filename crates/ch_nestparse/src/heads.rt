@@ -22,7 +22,7 @@ const MOST_AFFINE: u128 = 1 << 30;
 
 /// The forms of a low or a high end, and the end of the loop's box that they give.
 #[derive(Drop)]
-pub(crate) struct Ends {
+pub struct Ends {
     pub forms: List<Aff>,
     pub end: i64,
 }

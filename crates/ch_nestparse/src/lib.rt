@@ -19,8 +19,11 @@ mod sides;
 mod tests;
 
 pub use ahead::{
-    Look, after, begins, integer, keyword, name, next_is, number, place, refused, seen, sign,
-    text_at,
+    Look, Opening, after, begins, integer, keyword, name, next_is, number, place, refused, seen,
+    sign, text_at,
 };
+pub use declarations::Declared;
+pub use heads::Ends;
+pub use part::Part;
 pub use program::{ParsedProgram, parse_program};
 pub use scope::{Named, Names, fresh};

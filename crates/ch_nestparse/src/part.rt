@@ -17,7 +17,7 @@ const MOST_AFFINE: i64 = 1 << 30;
 
 /// A part of an affine form, and whether an iterator stands in its text.
 #[derive(Debug, Drop)]
-pub(crate) struct Part {
+pub struct Part {
     pub form: Aff,
     pub iterates: bool,
 }

@@ -1,0 +1,9 @@
+pub mod Back
+pub mod Cuts
+pub mod Ends
+pub mod Layouts
+pub mod Minus
+pub mod Names
+pub mod Printable
+pub mod Printed
+pub mod Sides
