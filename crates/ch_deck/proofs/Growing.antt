@@ -16,7 +16,7 @@ use Rattle.ch_deck.specs.declared.refusal.Refused.{Refused}
 use Rattle.ch_deck.specs.declared.sections.Found.{Found}
 use Rattle.ch_deck.specs.Judged.{IsSound, program_of}
 use Rattle.ch_deck.specs.Programs.{IsDeck, IsProgram, has_name, names_differ}
-use Rattle.ch_deck.specs.Sections.{AreFound, IsFilled, IsNew, names, section_from, sections_from}
+use Rattle.ch_deck.specs.Sections.{AreFound, IsRead, IsNew, end_of, names, section_from, sections_from}
 
 -- names
 
@@ -58,11 +58,11 @@ names_more : (found : List Found) (f : Found) → names (found ++ f ∷ []) ≡ 
 names_more [] f = refl
 names_more (x ∷ found) f = ap (λ t. x.program.name ∷ t) (names_more found f)
 
-pub found_more : (found : List Found) (f : Found) → AreFound found → IsNew found f.program.name → IsFilled f → AreFound (found ++ f ∷ [])
+pub found_more : (found : List Found) (f : Found) → AreFound found → IsNew found f.program.name → IsRead f → AreFound (found ++ f ∷ [])
 found_more found f a n g = record {
   few = let l = n.room in let e = length-append found (f ∷ []) in omega (arith, l, e);
   differ = rw (names_more found f) (differ_more (names found) f.program.name a.differ n.other);
-  filled = All-push IsFilled found f a.filled g;
+  read = All-push IsRead found f a.read g;
 }
 
 -- sections
@@ -72,6 +72,10 @@ pub sections_more : (left : ℕ) (bytes : List ℕ) (tokens : List Token) (from 
 unfolding sections_from
 sections_more zero bytes tokens from found new f some l e n = absurd (some refl)
 sections_more (suc left) bytes tokens from found new f some l e n = rw (lt-ltb from (length tokens) l, e, n) (simp unary_clauses refl)
+
+pub end_more : (from : ℕ) (found : List Found) (f : Found) → end_of from (found ++ f ∷ []) ≡ f.program.next
+end_more from [] f = refl
+end_more from (x ∷ found) f = end_more x.program.next found f
 
 pub cut_few : (bytes : List ℕ) (at : ℕ) (ts : List Token) → at ≤ length bytes → IsCut bytes at ts → at + length ts ≤ length bytes
 cut_few bytes at [] l h = omega (arith, l)
@@ -93,8 +97,15 @@ names_of : (found : List Found) → map (λ p. p.name) (map program_of found) �
 names_of [] = refl
 names_of (f ∷ found) = ap (λ t. f.program.name ∷ t) (names_of found)
 
-each_program : (found : List Found) → All IsFilled found → All IsSound found → All IsProgram (map program_of found)
-each_program found a s = All-map IsProgram program_of found (λ k d l. record { sound = s k d l; filled = a k d l })
+each_program : (found : List Found) → All IsRead found → All IsSound found → All IsProgram (map program_of found)
+each_program found a s = All-map IsProgram program_of found (λ k d l. let r = a k d l in record {
+  sound = s k d l;
+  called = r.called;
+  named = r.named;
+  apart = r.apart;
+  filled = r.filled;
+  numbers = r.numbers;
+})
 
 as_many : (found : List Found) → length (map program_of found) ≡ length found
 as_many [] = refl
@@ -104,5 +115,5 @@ pub deck_found : (found : List Found) (programs : List Program) → AreFound fou
 deck_found found programs a s e = rw e (record {
   few = let l = a.few in let m = as_many found in omega (arith, l, m);
   differ = rw (names_of found) a.differ;
-  each = each_program found a.filled s;
+  each = each_program found a.read s;
 })

@@ -21,7 +21,7 @@ use Rattle.ch_deck.specs.declared.sections.Found.{Found}
 use Rattle.ch_deck.specs.declared.sections.Sort.{Sort}
 use Rattle.ch_deck.specs.declared.sections.Sort.TheVariants as sorts
 use Rattle.ch_deck.specs.Programs.{has_name, most_programs}
-use Rattle.ch_deck.specs.Sections.{IsNew, found_at, is_name, named_at, names, section_from, sort_of, sorted_at}
+use Rattle.ch_deck.specs.Sections.{IsNew, found_at, looks_named, named_at, names, section_from, sort_of, sorted_at}
 
 post_any : {X : Type 0} (r : Result X ParseError) → Post (λ _. Unit {0}) r
 post_any r = λ x e. tt
@@ -30,19 +30,19 @@ keyword_next : (bytes : List ℕ) (k : Keyword) (ts : List Token) → Post (λ r
 unfolding keyword_at
 keyword_next bytes k ts = post_guarded (begins bytes k ts) P1 (place bytes ts) (λ _. Ok (drop 1 ts)) (λ _. post_ok (λ rest. rest ≡ drop 1 ts) (drop 1 ts) refl)
 
-name_by : (look : Look) (at : ℕ) (text : List ℕ) (ts : List Token) → Post (λ n. (is_name look ≡ true) × (n.0 ≡ text)) (name_if look P1 at text ts)
+name_by : (look : Look) (at : ℕ) (text : List ℕ) (ts : List Token) → Post (λ n. (looks_named look ≡ true) × (n.0 ≡ text)) (name_if look P1 at text ts)
 name_by looks.Name at text ts = post_ok (λ n. (true ≡ true) × (n.0 ≡ text)) (text, ts) (refl, refl)
 name_by (looks.Keyword k) at text ts = post_err _ _
 name_by (looks.Number n) at text ts = post_err _ _
 name_by (looks.Sign s) at text ts = post_err _ _
 name_by looks.End at text ts = post_err _ _
 
-name_next : (bytes : List ℕ) (ts : List Token) → Post (λ n. (is_name (seen bytes ts) ≡ true) × (n.0 ≡ text_at bytes ts)) (name_at bytes P1 ts)
+name_next : (bytes : List ℕ) (ts : List Token) → Post (λ n. (looks_named (seen bytes ts) ≡ true) × (n.0 ≡ text_at bytes ts)) (name_at bytes P1 ts)
 unfolding name_at
 name_next bytes ts = name_by (seen bytes ts) (place bytes ts) (text_at bytes ts) (drop 1 ts)
 
 abbrev Named : List ℕ → List Token → List ℕ → Type 0
-Named bytes ts name = (is_name (seen bytes ts) ≡ true) × (name ≡ text_at bytes ts)
+Named bytes ts name = (looks_named (seen bytes ts) ≡ true) × (name ≡ text_at bytes ts)
 
 section_named : (bytes : List ℕ) (ts : List Token) → Post (λ r. Named bytes (drop 1 ts) r.0.name) (section_at bytes ts)
 unfolding section_at
@@ -62,10 +62,10 @@ program_named bytes tokens from =
     post_bind (section_named bytes (drop from tokens)) (λ x h.
     post_ok (λ p. Named bytes (drop (from + 1) tokens) p.name) _ (rw (drop-drop 1 from tokens) at h))
 
-named_post : (bytes : List ℕ) (found : List Found) (ts : List Token) → Post (λ _. is_name (seen bytes ts) ≡ true → IsNew found (text_at bytes ts)) (named_at bytes found ts)
+named_post : (bytes : List ℕ) (found : List Found) (ts : List Token) → Post (λ _. looks_named (seen bytes ts) ≡ true → IsNew found (text_at bytes ts)) (named_at bytes found ts)
 unfolding named_at
 named_post bytes found ts =
-    post_choose (is_name (seen bytes ts)) _ _
+    post_choose (looks_named (seen bytes ts)) _ _
     (λ name. post_guarded (not (has_name (text_at bytes ts) (names found))) D3 (place bytes ts) _ (λ other.
     post_guarded (nat_lt (length found) most_programs) D6 (place bytes ts) _ (λ room.
     post_ok _ tt (λ _. record { other = not_true _ other; room = ltb-true _ _ room }))))

@@ -1,9 +1,11 @@
 -- What the type of a deck keeps of its programs.
 use Rattle.std.specs.Prelude.{◌≡◌, ℕ, ◌≤◌, Bool, true, false, not, ◌&&◌, ◌||◌, IsTrue, List, [], ◌∷◌, length, map}
-use Rattle.std.specs.List.{All}
+use Rattle.std.specs.List.{All, list_all}
 use Rattle.std.specs.Str.{bytes_eq}
 use Rattle.ch_deck.specs.declared.program.Program.{Program}
 use Rattle.ch_nest.specs.Sound.{is_sound}
+use Rattle.ch_nestparse.specs.Distinct.{are_distinct}
+use Rattle.ch_nestparse.specs.Spelling.{is_fill, is_name, is_named}
 
 -- the most programs of a deck
 abbrev pub most_programs : ℕ
@@ -19,10 +21,15 @@ abbrev pub names_differ : List (List ℕ) → Bool
 names_differ [] = true
 names_differ (n ∷ ns) = not (has_name n ns) && names_differ ns
 
--- it can be run, and each array has a fill
+-- It can be run; its name and those of its arrays are names of the language, no two arrays have one name, and each has a fill whose
+-- numbers are numbers of the language.
 pub record IsProgram (p : Program) : Type 0 where
   pub sound : IsTrue (is_sound p.nest)
+  pub called : IsTrue (is_name p.name)
+  pub named : IsTrue (list_all is_named p.nest.arrays)
+  pub apart : IsTrue (are_distinct p.nest.arrays)
   pub filled : length p.fills ≡ length p.nest.arrays
+  pub numbers : IsTrue (list_all is_fill p.fills)
 
 pub record IsDeck (programs : List Program) : Type 0 where
   pub few : length programs ≤ most_programs

@@ -1,6 +1,6 @@
 ghost use Rattle.std.specs.Prelude.{◌≡◌, ◌<◌, ◌≤◌, ◌^◌, ◌+◌, ◌++◌, ◌∷◌, [], length, not, map, nat_lt, IfOk, IsTrue};
 ghost use Rattle.ch_deck.specs.Programs.{has_name, most_programs, names_differ};
-ghost use Rattle.ch_deck.specs.Sections.{AreFound, IsFilled, found_at, is_name, named_at, names, section_from, sections_from, sections_of, sort_of, word_sort};
+ghost use Rattle.ch_deck.specs.Sections.{AreFound, IsRead, end_of, found_at, looks_named, most_sections, named_at, names, section_from, sections_from, sections_of, sort_of, word_sort};
 ghost use Rattle.ch_lex.specs.Cut.{IsCut};
 ghost use Rattle.ch_nestparse.specs.Gives.{Gives};
 
@@ -49,8 +49,8 @@ fn sort_of(look: Look) -> Sort
     }
 }
 
-fn is_name(look: Look) -> bool
-    ensures { result ≡ is_name look }
+fn looks_named(look: Look) -> bool
+    ensures { result ≡ looks_named look }
 {
     matches!(look, Look::Name)
 }
@@ -73,7 +73,7 @@ fn named(bytes: &[u8], found: &[Found], tokens: &[Token]) -> Result<(), ParseErr
     requires { length bytes.now < 2 ^ 32 }
     ensures { Gives (λ r. r) result (named_at bytes.now found.now tokens.now) }
 {
-    if is_name(seen(bytes, tokens)) {
+    if looks_named(seen(bytes, tokens)) {
         if has_name(text_at(bytes, tokens), found) {
             return Err(refused(Code2::D3, place(bytes, tokens)));
         }
@@ -98,7 +98,7 @@ fn found_at(
     requires cut { IsCut bytes.now 0 tokens.now }
     requires from { from < length tokens.now }
     ensures exact { Gives (λ f. f) result (found_at bytes.now tokens.now from found.now) }
-    ensures filled { IfOk result IsFilled }
+    ensures read { IfOk result IsRead }
     ensures within { IfOk result (λ f. f.program.next ≤ length tokens.now) }
 {
     let behind = tokens.split_at(from as usize + 1).1;
@@ -124,7 +124,7 @@ fn section_from(
     requires cut { IsCut bytes.now 0 tokens.now }
     requires from { from < length tokens.now }
     ensures exact { Gives (λ f. f) result (section_from bytes.now tokens.now from found.now) }
-    ensures filled { IfOk result IsFilled }
+    ensures read { IfOk result IsRead }
     ensures within { IfOk result (λ f. f.program.next ≤ length tokens.now) }
 {
     let here = tokens.split_at(from as usize).1;
@@ -150,8 +150,11 @@ fn sections_from(
     requires cut { IsCut bytes.now 0 tokens.now }
     requires from { from ≤ length tokens.now }
     requires fine { AreFound found }
+    requires enough { most_sections ≤ length found + left }
+    requires reached { end_of 0 found ≡ from }
     ensures exact { Gives (λ all. all) result (sections_from left bytes.now tokens.now from found) }
     ensures fine { IfOk result AreFound }
+    ensures whole { IfOk result (λ all. end_of 0 all ≡ length tokens.now) }
 {
     if left == 0 || from as usize >= tokens.len() {
         return Ok(found);
@@ -174,6 +177,7 @@ pub(crate) fn sections(
     requires cut { IsCut bytes.now 0 tokens.now }
     ensures exact { Gives (λ all. all) result (sections_of bytes.now tokens.now) }
     ensures fine { IfOk result AreFound }
+    ensures whole { IfOk result (λ all. end_of 0 all ≡ length tokens.now) }
 {
     sections_from(alloc, MOST_SECTIONS, bytes, tokens, 0, List::new(alloc))
 }

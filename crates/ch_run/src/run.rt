@@ -83,7 +83,7 @@ pub fn still<S: Source, K: Sink>(
     ensures usage { result ≡ 2 → Appends (K.taken sink.old) (K.taken sink.new) usage }
     ensures other_words { result ≡ 2 → command_of (map string_bytes words.now) ≡ None }
     ensures usable_words { command_of (map string_bytes words.now) ≡ None → (result ≡ 2) ⊎ (result ≡ 4) }
-    ensures unread { command_of (map string_bytes words.now) ≡ None → S.left source.new ≡ S.left source.old }
+    ensures unread { command_of (map string_bytes words.now) ≡ None → source.new ≡ source.old }
 
     // A failed read.
     ensures read_fault { result ≡ 3 → HasRisen (S.faults source.old) (S.faults source.new) }
@@ -125,7 +125,7 @@ pub fn top<R: Threads + Wait + Sync, S: Source, K: Sink, G: Gate + Sync>(
     ensures usage { result ≡ 2 → Appends (K.taken sink.old) (K.taken sink.new) usage }
     ensures other_words { result ≡ 2 → command_of (map string_bytes words.now) ≡ None }
     ensures usable_words { command_of (map string_bytes words.now) ≡ None → (result ≡ 2) ⊎ (result ≡ 4) }
-    ensures unread { command_of (map string_bytes words.now) ≡ None → S.left source.new ≡ S.left source.old }
+    ensures unread { command_of (map string_bytes words.now) ≡ None → source.new ≡ source.old }
 
     // A failed read.
     ensures read_fault { result ≡ 3 → HasRisen (S.faults source.old) (S.faults source.new) }

@@ -115,8 +115,74 @@ recipe r(T) { tile(0, 2, T, 1); }",
 fn each_front_of_a_deck_is_read_or_refused(rt: HostRuntime) -> Result<(), Fail> {
     for k in 0..PRODUCT.len() {
         let (status, _) = answer(rt.alloc(), "eval", &PRODUCT[..k])?;
-        assert!(rt; status <= 1);
+        // Nothing at all is a deck, and so is all but the last line feed.
+        let whole = k == 0 || k + 1 == PRODUCT.len();
+        assert_eq!(rt; status, u8::from(!whole));
     }
+    Ok(())
+}
+
+const WRAPPING_CODE: &[u8] = b"program w legal pieces 3 instances 3
+piece 0 S0 places 0 0 count 1 first S0(0) last S0(0)
+piece 1 S1 places 0 1 count 1 first S1(0) last S1(0)
+piece 2 S2 places 0 2 count 1 first S2(0) last S2(0)
+array A[1]
+for x1 = 0 to 0 {
+  S0(i1 = x1) at 0 0: A[i1] = ((A[i1] * A[i1]) + (A[i1] * A[i1]))
+  S1(i1 = x1) at 0 1: A[i1] = (A[i1] - 1)
+  S2(i1 = x1) at 0 2: A[i1] = (A[i1] * 3)
+}
+end
+";
+
+const TRIANGLE_CODE: &[u8] = b"program z legal pieces 0 instances 0
+array A[2]
+{
+}
+program t legal pieces 1 instances 3
+piece 0 S0 places 0 0 0 count 3 first S0(0,0) last S0(1,1)
+array A[2][2]
+for x1 = 0 to 1
+  for x2 = 0 to 1
+    if 0 <= x1 <= 1, 0 <= x2 <= 1 and x1 >= 0 and -x1 + 1 >= 0 and x2 >= 0 and x1 - x2 >= 0
+      S0(i1 = x1, i2 = x2) at 0 0 0: A[i1][i2] = ((10 * i1) + i2)
+end
+";
+
+#[test]
+fn show_prints_pieces_and_code(rt: HostRuntime) -> Result<(), Fail> {
+    let cases: [(&[u8], &[u8]); 4] = [
+        (b"", b"end\n"),
+        (
+            b"program w { array A[1] = fill(0, 2147483648); for (i = 0; i < 1; i++) {
+A[i] = A[i]*A[i] + A[i]*A[i]; A[i] = A[i] - 1; A[i] = A[i] * 3; } }",
+            WRAPPING_CODE,
+        ),
+        (
+            b"program z { array A[2] = fill(3, 1); for (i = 0; i < 0; i++) A[i] = 9; }",
+            b"program z legal pieces 0 instances 0\narray A[2]\n{\n}\nend\n",
+        ),
+        (
+            b"program z { array A[2] = fill(3, 1); for (i = 0; i < 0; i++) A[i] = 9; }
+program t { array A[2][2] = fill(0, 0);
+for (i = 0; i < 2; i++) for (j = 0; j <= i; j++) A[i][j] = 10*i + j; }",
+            TRIANGLE_CODE,
+        ),
+    ];
+    for (deck, text) in cases {
+        let (status, written) = answer(rt.alloc(), "show", deck)?;
+        assert_eq!(rt; written.as_slice(), text);
+        assert_eq!(rt; status, 0);
+    }
+    Ok(())
+}
+
+#[test]
+fn show_refuses_what_eval_does(rt: HostRuntime) -> Result<(), Fail> {
+    let deck = b"program p { array A[4] = fill(0, 0);\nA[4] = 1; }".as_slice();
+    let (status, written) = answer(rt.alloc(), "show", deck)?;
+    assert_eq!(rt; written.as_slice(), b"refused S2 at 2:1: S0() A[4]\n".as_slice());
+    assert_eq!(rt; status, 1);
     Ok(())
 }
 

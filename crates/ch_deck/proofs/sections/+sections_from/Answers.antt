@@ -9,7 +9,7 @@ pub sections_from-requires : goal.sections_from-requires
 sections_from-requires t c =
     let found : section_from c.args.bytes.now c.args.tokens.now c.args.from c.args.found ≡ Ok c.in_ok-section.section = rw c.as_slice.ensures at c.in_ok-section.ensures.exact in
     let new : IsNew c.args.found c.in_ok-section.section.program.name = new_of c.args.bytes.now c.args.tokens.now c.args.from c.args.found c.in_ok-section.section found in
-    let more : AreFound c.push.new.self = rw (c.in_ok-push.ensures.ok) (found_more c.args.found c.in_ok-section.section c.requires.fine new c.in_ok-section.ensures.filled) in
+    let more : AreFound c.push.new.self = rw (c.in_ok-push.ensures.ok) (found_more c.args.found c.in_ok-section.section c.requires.fine new c.in_ok-section.ensures.read) in
     (omega (arith, c.decreases, c.if-left-eq0.false), (c.requires.short, (c.requires.few, (c.requires.cut, (c.in_ok-section.ensures.within, more)))))
 
 pub returns-clause-exact : goal.returns-clause-exact
