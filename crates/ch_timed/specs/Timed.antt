@@ -56,9 +56,19 @@ abbrev pub pieces_apart : List Element → Bool
 pieces_apart [] = true
 pieces_apart (x ∷ xs) = is_apart (places x.vector) xs && pieces_apart xs
 
--- distinct identities, ascending vectors, and no piece's places a prefix of another's
+-- a place, and then a loop value and a place for each level
+abbrev pub is_vector : List ℤ → Bool
+is_vector [] = false
+is_vector (p ∷ []) = true
+is_vector (p ∷ x ∷ more) = is_vector more
+
+abbrev pub have_vectors : List Element → Bool
+have_vectors [] = true
+have_vectors (x ∷ xs) = is_vector x.vector && have_vectors xs
+
+-- distinct identities, ascending vectors of places and loop values, and no piece's places a prefix of another's
 abbrev pub is_well_formed : List Element → Bool
-is_well_formed list = identities_differ list && (vectors_ascend list && pieces_apart list)
+is_well_formed list = identities_differ list && (vectors_ascend list && (pieces_apart list && have_vectors list))
 
 -- the places of the pieces, ascending: piece k is the k-th
 abbrev pub pieces : List Element → List (List ℤ)
