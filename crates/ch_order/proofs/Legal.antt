@@ -10,14 +10,14 @@ use Rattle.ch_timed.specs.declared.element.Cell.{Cell}
 use Rattle.ch_timed.specs.declared.element.Element.{Element}
 use Rattle.ch_timed.specs.Conflict.{conflict}
 use Rattle.ch_timed.specs.Do.{Store, done, execute, right_value, value_step}
-use Rattle.ch_timed.specs.Flat.{done_flat, execute_cells, execute_flat, look, place_of, IsInside}
+use Rattle.ch_timed.specs.Flat.{done_flat, execute_flat, look, place_of, IsInside}
 use Rattle.ch_timed.specs.Conflict.{written}
 use Rattle.ch_timed.specs.Members.{Each, In}
 use Rattle.ch_timed.specs.Order.{do_all}
 use Rattle.ch_timed.specs.Timed.{Step, same_step}
 use Rattle.std.proofs.Common.{set}
 use Rattle.ch_order.proofs.Commutes.{commutes}
-use Rattle.ch_order.proofs.FlatCommutes.{same_end_flat}
+use Rattle.ch_order.proofs.FlatCommutes.{execute_cells, same_end_flat}
 use Rattle.ch_order.proofs.Members.{has_same}
 use Rattle.ch_timed.proofs.Orders.{at_each}
 use Rattle.ch_order.proofs.Steps.{HasSame, distinct, same_identity_self, same_turned, same_end}

@@ -50,7 +50,9 @@ vectors_ascend (x ∷ y ∷ more) = comes_before x.vector y.vector && vectors_as
 abbrev pub is_apart : List ℤ → List Element → Bool
 is_apart ps [] = true
 is_apart ps (x ∷ xs) =
-    (same_numbers ps (places x.vector) || (not (begins_with ps (places x.vector)) && not (begins_with (places x.vector) ps))) && is_apart ps xs
+    (same_numbers ps (places x.vector)
+    || (not (begins_with ps (places x.vector)) && not (begins_with (places x.vector) ps)))
+    && is_apart ps xs
 
 abbrev pub pieces_apart : List Element → Bool
 pieces_apart [] = true
