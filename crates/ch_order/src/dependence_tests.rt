@@ -18,16 +18,16 @@ use std::test::Fail;
 struct Assignments {
     reader_first: bool,
     between: bool,
-    k: i64,
+    k: i8,
 }
 
 /// `A[k]`.
-fn access(alloc: Global, k: i64) -> Result<Access, AllocError>
+fn access(alloc: Global, k: i8) -> Result<Access, AllocError>
     ensures { IfOk result (λ it. it ≡ access k) }
 {
     let form = Aff {
         coefs: List::new(alloc),
-        constant: k,
+        constant: i64::from(k),
     };
     Ok(Access {
         array: 0,
@@ -39,7 +39,7 @@ fn access(alloc: Global, k: i64) -> Result<Access, AllocError>
 fn assigned(
     alloc: Global,
     label: u32,
-    k: i64,
+    k: i8,
     right: Expr,
     place: i64,
 ) -> Result<Element, AllocError>
@@ -68,7 +68,7 @@ fn reader_or_writer(alloc: Global, reads: bool, place: i64) -> Result<Element, A
     assigned(alloc, 0, 0, Expr::Number(7), place)
 }
 
-fn last_write(alloc: Global, k: i64, place: i64) -> Result<Element, AllocError>
+fn last_write(alloc: Global, k: i8, place: i64) -> Result<Element, AllocError>
     ensures { IfOk result (λ e. e ≡ last_write k place) }
 {
     assigned(alloc, 2, k, Expr::Number(5), place)
@@ -103,7 +103,7 @@ impl Timed for Assignments {
     }
 }
 
-fn three(reader_first: bool, between: bool, k: i64) -> Assignments
+fn three(reader_first: bool, between: bool, k: i8) -> Assignments
     ensures { result ≡ record { reader_first = reader_first; between = between; k = k } }
 {
     Assignments {
