@@ -14,10 +14,14 @@ use Rattle.ch_timed.specs.declared.element.Element.{Element}
 use Rattle.ch_timed.specs.Timed.{Step, step, same_step, identities_differ}
 use Rattle.ch_timed.specs.Conflict.{cell_of, same_cell, reads, written, conflict, reversed}
 use Rattle.ch_timed.specs.Do.{right_value}
-use Rattle.ch_timed.specs.Flat.{place_of, look, execute_cells, AllInside, IsInside}
+use Rattle.ch_timed.specs.Flat.{place_of, look, AllInside, IsInside}
 use Rattle.ch_order.proofs.Commutes.{Agree, apart_from, same_value, same_cell_self}
 use Rattle.ch_order.proofs.Places.{place_injective}
 use Rattle.ch_order.proofs.Steps.{distinct, apart, same_identity_self}
+
+-- what a step does to flat arrays, told cell by cell
+abbrev pub execute_cells : List ArrayDecl → Step → List ℤ → List ℤ
+execute_cells arrays s cells = set cells (place_of arrays (written s)) (right_value s.identity.iters (look arrays cells) s.body.right)
 
 module _ (arrays : List ArrayDecl) where
   pub other_place : (c d : Cell) → IsTrue (within_array arrays c.array c.subs) → IsTrue (within_array arrays d.array d.subs) → same_cell c d ≡ false → place_of arrays c ≢ place_of arrays d

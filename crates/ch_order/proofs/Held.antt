@@ -10,12 +10,12 @@ use Rattle.ch_timed.specs.declared.element.Cell.{Cell}
 use Rattle.ch_timed.specs.declared.element.Element.{Element}
 use Rattle.ch_timed.specs.Conflict.{cell_of, reads, same_cell, written}
 use Rattle.ch_timed.specs.Do.{Store, done, execute, right_value}
-use Rattle.ch_timed.specs.Flat.{AllInside, IsInside, done_flat, execute_cells, execute_flat, look, place_of}
+use Rattle.ch_timed.specs.Flat.{AllInside, IsInside, done_flat, execute_flat, look, place_of}
 use Rattle.ch_timed.specs.Members.{Each}
 use Rattle.ch_timed.specs.Order.{do_all}
 use Rattle.ch_timed.specs.Timed.{Step}
 use Rattle.ch_order.proofs.Commutes.{Agree, same_value, same_cell_is}
-use Rattle.ch_order.proofs.FlatCommutes.{other_place}
+use Rattle.ch_order.proofs.FlatCommutes.{execute_cells, other_place}
 use Rattle.ch_order.proofs.Legal.{flat_step}
 use Rattle.ch_order.proofs.Places.{place_below}
 

@@ -5,19 +5,19 @@ use Rattle.ch_nest.specs.declared.nest.Expr.{Expr}
 use Rattle.ch_nest.specs.declared.nest.Expr.TheOpen.{Expr-F}
 use Rattle.ch_nest.specs.declared.nest.Expr.TheFolds.{fold-Expr}
 use Rattle.ch_nest.specs.Run.{expr_value, expr_step}
-use Rattle.ch_order.specs.Legal.{IsLegal, StaysInside, steps}
+use Rattle.ch_order.specs.Legal.{IsLegal, IsLegalChain, StaysInside, last_list, steps}
 use Rattle.ch_timed.specs.declared.element.Cell.{Cell}
 use Rattle.ch_timed.specs.declared.element.Element.{Element}
 use Rattle.ch_timed.specs.Conflict.{conflict}
 use Rattle.ch_timed.specs.Do.{Store, done, execute, right_value, value_step}
-use Rattle.ch_timed.specs.Flat.{done_flat, execute_cells, execute_flat, look, place_of, IsInside}
+use Rattle.ch_timed.specs.Flat.{done_flat, execute_flat, look, place_of, IsInside}
 use Rattle.ch_timed.specs.Conflict.{written}
 use Rattle.ch_timed.specs.Members.{Each, In}
 use Rattle.ch_timed.specs.Order.{do_all}
 use Rattle.ch_timed.specs.Timed.{Step, same_step}
 use Rattle.std.proofs.Common.{set}
 use Rattle.ch_order.proofs.Commutes.{commutes}
-use Rattle.ch_order.proofs.FlatCommutes.{same_end_flat}
+use Rattle.ch_order.proofs.FlatCommutes.{execute_cells, same_end_flat}
 use Rattle.ch_order.proofs.Members.{has_same}
 use Rattle.ch_timed.proofs.Orders.{at_each}
 use Rattle.ch_order.proofs.Steps.{HasSame, distinct, same_identity_self, same_turned, same_end}
@@ -67,6 +67,25 @@ legal_end_flat old new l arrays inside cells =
     (has_same Step Cell (List ℤ) same_step conflict (execute_cells arrays) (λ s. same_identity_self s.identity) (λ s t. same_turned s.identity t.identity) (steps old) (steps new)
     (distinct old l.old_once) (distinct new l.new_once) l.kept l.no_others) l.in_turn cells
     ∙ sym (flat_all arrays (steps new) cells)
+
+-- several lists, one after another
+
+pub chain_end : (first : List Element) (later : List (List Element)) → IsLegalChain first later → (store : Store)
+    → done first store ≡ done (last_list first later) store
+chain_end first [] chain store = refl
+chain_end first (next ∷ later) chain store = legal_end first next chain.0 store ∙ chain_end next later chain.1 store
+
+pub chain_inside : (first : List Element) (later : List (List Element)) → IsLegalChain first later → (arrays : List ArrayDecl)
+    → StaysInside arrays first → StaysInside arrays (last_list first later)
+chain_inside first [] chain arrays inside = inside
+chain_inside first (next ∷ later) chain arrays inside = chain_inside next later chain.1 arrays (legal_inside first next chain.0 arrays inside)
+
+pub chain_end_flat : (first : List Element) (later : List (List Element)) → IsLegalChain first later → (arrays : List ArrayDecl)
+    → StaysInside arrays first → (cells : List ℤ) → done_flat arrays first cells ≡ done_flat arrays (last_list first later) cells
+chain_end_flat first [] chain arrays inside cells = refl
+chain_end_flat first (next ∷ later) chain arrays inside cells =
+    legal_end_flat first next chain.0 arrays inside cells
+    ∙ chain_end_flat next later chain.1 arrays (legal_inside first next chain.0 arrays inside) cells
 
 pub neighbours : (front back : List Step) (a b : Step) → conflict a b ≡ None → (store : Store)
     → do_all execute (front ++ a ∷ b ∷ back) store ≡ do_all execute (front ++ b ∷ a ∷ back) store

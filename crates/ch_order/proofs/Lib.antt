@@ -12,6 +12,7 @@ pub mod Legal
 pub mod Loops
 pub mod Members
 pub mod Places
+pub mod SampleLists
 pub mod Steps
 pub mod Walks
 pub mod WideSums

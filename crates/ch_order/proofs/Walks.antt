@@ -6,12 +6,12 @@ use Rattle.std.specs.Ordering.{int_cmp, is_lt, ordering_reverse}
 use Rattle.std.specs.declared.cmp.Ordering.TheVariants.{Less, Equal}
 use Rattle.std.specs.Cmp.{int_cmp_total, tied_itself, IsTotalOrder}
 use Rattle.std.specs.Cmp.Lexicographic.{slice_cmp, lists_total}
-use Rattle.ch_order.specs.Walk.{all_if, rest, has_place, all_placed}
+use Rattle.ch_order.specs.Walk.{all_if, rest}
 use Rattle.ch_timed.specs.declared.element.Element.{Element}
 use Rattle.ch_timed.specs.Members.{Each, In}
 use Rattle.ch_timed.specs.Next.{first_if, next_after}
 use Rattle.ch_order.specs.Legal.{steps}
-use Rattle.ch_timed.specs.Timed.{is_well_formed, step}
+use Rattle.ch_timed.specs.Timed.{have_vectors, identities_differ, is_vector, is_well_formed, pieces_apart, step, vectors_ascend}
 use Rattle.ch_timed.proofs.Sorted.{adjacent_ascends}
 use Rattle.ch_timed.specs.Vectors.{comes_before}
 use Rattle.ch_timed.proofs.Orders.{IsAscending, at_each, map_in}
@@ -22,13 +22,21 @@ Ascends = IsAscending (λ e. e.vector)
 lists_order : IsTotalOrder (slice_cmp int_cmp)
 lists_order = lists_total int_cmp_total
 
-placed : (v : List ℤ) → has_place v ≡ true → comes_before [] v ≡ true
-placed [] h = cc
-placed (p ∷ more) h = refl
+-- a vector has a place, so that it comes after the empty list
+after_none : (v : List ℤ) → is_vector v ≡ true → comes_before [] v ≡ true
+after_none [] h = cc
+after_none (p ∷ more) h = refl
 
-pub rest_start : (list : List Element) → all_placed list ≡ true → rest [] list ≡ list
-rest_start [] h = refl
-rest_start (e ∷ es) h = ap (λ t. all_if t (e ∷ es) (rest [] es)) (placed e.vector (and_parts _ _ h).0)
+-- of a list that has vectors all is left at the start
+all_left : (list : List Element) → have_vectors list ≡ true → rest [] list ≡ list
+all_left [] h = refl
+all_left (e ∷ es) h = ap (λ t. all_if t (e ∷ es) (rest [] es)) (after_none e.vector (and_parts _ _ h).0)
+
+pub rest_start : (list : List Element) → is_well_formed list ≡ true → rest [] list ≡ list
+rest_start list fine =
+    let ascend = and_parts (identities_differ list) _ fine in
+    let apart = and_parts (vectors_ascend list) _ ascend.1 in
+    all_left list (and_parts (pieces_apart list) (have_vectors list) apart.1).1
 
 rest_past : (v : List ℤ) (xs : List Element) → Each (λ y. slice_cmp int_cmp v y.vector ≡ Less) xs → rest v xs ≡ xs
 rest_past v [] h = refl

@@ -1,5 +1,5 @@
 -- What is left of a list when it is walked from vector to vector.
-use Rattle.std.specs.Prelude.{ℤ, Bool, true, false, ◌&&◌, List, [], ◌∷◌}
+use Rattle.std.specs.Prelude.{ℤ, Bool, true, false, List, [], ◌∷◌}
 use Rattle.ch_timed.specs.declared.element.Element.{Element}
 use Rattle.ch_timed.specs.Vectors.{comes_before}
 
@@ -11,12 +11,3 @@ all_if false all rest = rest
 abbrev pub rest : List ℤ → List Element → List Element
 rest v [] = []
 rest v (e ∷ es) = all_if (comes_before v e.vector) (e ∷ es) (rest v es)
-
-abbrev pub has_place : List ℤ → Bool
-has_place [] = false
-has_place (p ∷ more) = true
-
--- each vector has a place, so that it comes after the empty one
-abbrev pub all_placed : List Element → Bool
-all_placed [] = true
-all_placed (e ∷ es) = has_place e.vector && all_placed es

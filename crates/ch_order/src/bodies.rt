@@ -13,20 +13,24 @@ fn same_form(a: &Aff, b: &Aff) -> bool
     a.constant == b.constant && same_numbers(a.coefs.as_slice(), b.coefs.as_slice())
 }
 
+fn same_sub(a: &Sub, b: &Sub) -> bool
+    ensures { IsTrue result ↔ (a.now ≡ b.now) }
+{
+    a.modulus == b.modulus && same_form(&a.form, &b.form)
+}
+
 fn same_subs(a: &[Sub], b: &[Sub]) -> bool
     ensures { IsTrue result ↔ (a.now ≡ b.now) }
 {
-    match a {
-        [] => b.is_empty(),
-        [sub, more @ ..] => match b {
-            [] => false,
-            [other, others @ ..] => {
-                sub.modulus == other.modulus
-                    && same_form(&sub.form, &other.form)
-                    && same_subs(more, others)
-            }
-        },
+    if a.len() != b.len() {
+        return false;
     }
+    for (sub, other) in a.iter().zip(b) {
+        if !same_sub(sub, other) {
+            return false;
+        }
+    }
+    true
 }
 
 fn same_access(a: &Access, b: &Access) -> bool

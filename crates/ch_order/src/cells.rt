@@ -18,25 +18,25 @@ fn same_subscript(sub: &Sub, iters: &[i64], other: &Sub, their_iters: &[i64]) ->
     same_number(subscript(sub, iters), subscript(other, their_iters))
 }
 
-#[tactic(auto, using(crate::proofs::Equality::same_cons))]
 fn same_subscripts(subs: &[Sub], iters: &[i64], others: &[Sub], their_iters: &[i64]) -> bool
-    ensures { result ≡ same_numbers (map (sub_value iters.now) subs.now) (map (sub_value their_iters.now) others.now) }
+    ensures { result ≡ same_numbers
+        (map (sub_value iters.now) subs.now) (map (sub_value their_iters.now) others.now) }
 {
-    match subs {
-        [] => others.is_empty(),
-        [sub, more @ ..] => match others {
-            [] => false,
-            [other, more_others @ ..] => {
-                same_subscript(sub, iters, other, their_iters)
-                    && same_subscripts(more, iters, more_others, their_iters)
-            }
-        },
+    if subs.len() != others.len() {
+        return false;
     }
+    for (sub, other) in subs.iter().zip(others) {
+        if !same_subscript(sub, iters, other, their_iters) {
+            return false;
+        }
+    }
+    true
 }
 
 /// Whether two accesses name one cell, each at iterators of its own.
 fn same_cell(access: &Access, iters: &[i64], other: &Access, their_iters: &[i64]) -> bool
-    ensures { result ≡ same_cell (cell_of iters.now access.now) (cell_of their_iters.now other.now) }
+    ensures { result
+        ≡ same_cell (cell_of iters.now access.now) (cell_of their_iters.now other.now) }
 {
     access.array == other.array
         && same_subscripts(
@@ -50,7 +50,8 @@ fn same_cell(access: &Access, iters: &[i64], other: &Access, their_iters: &[i64]
 /// Whether a right side reads the cell of an access at other iterators.
 #[tactic(auto, using(crate::proofs::Clashes::has_both))]
 fn reads_cell(expr: &Expr, iters: &[i64], access: &Access, their_iters: &[i64]) -> bool
-    ensures { result ≡ has_cell (cell_of their_iters.now access.now) (map (cell_of iters.now) (reads expr.now)) }
+    ensures { result ≡ has_cell
+        (cell_of their_iters.now access.now) (map (cell_of iters.now) (reads expr.now)) }
 {
     match expr {
         Expr::Number(_) | Expr::Iter(_) => false,
@@ -65,7 +66,8 @@ fn reads_cell(expr: &Expr, iters: &[i64], access: &Access, their_iters: &[i64]) 
 
 /// Whether the first element reads the cell that the second one writes.
 fn reads_written(a: &Element, b: &Element) -> bool
-    ensures { result ≡ has_cell (written (step b.now)) (map (cell_of a.now.identity.iters) (reads a.now.body.right)) }
+    ensures { result ≡ has_cell
+        (written (step b.now)) (map (cell_of a.now.identity.iters) (reads a.now.body.right)) }
 {
     reads_cell(
         &a.body.right,
@@ -89,7 +91,11 @@ fn same_written(a: &Element, b: &Element) -> bool
 
 /// Whether one of them reads what the other one writes.
 fn reads_other(a: &Element, b: &Element) -> bool
-    ensures { result ≡ (has_cell (written (step a.now)) (map (cell_of b.now.identity.iters) (reads b.now.body.right)) || has_cell (written (step b.now)) (map (cell_of a.now.identity.iters) (reads a.now.body.right))) }
+    ensures { result ≡ (
+        has_cell (written (step a.now))
+        (map (cell_of b.now.identity.iters) (reads b.now.body.right))
+        || has_cell (written (step b.now))
+        (map (cell_of a.now.identity.iters) (reads a.now.body.right))) }
 {
     reads_written(b, a) || reads_written(a, b)
 }

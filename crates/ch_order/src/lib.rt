@@ -15,4 +15,6 @@ pub use laws::{
 pub use meaning::same_meaning;
 
 #[cfg(test)]
+mod dependence_tests;
+#[cfg(test)]
 mod tests;

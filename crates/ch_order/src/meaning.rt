@@ -4,13 +4,13 @@
 ghost use Rattle.std.specs.Prelude.{◌≡◌, ◌↔◌, ◌∷◌, [], ℤ, IfOk, IsTrue, List, MatchOption, is_some};
 ghost use Rattle.ch_nest.specs.declared.nest.ArrayDecl.{ArrayDecl};
 ghost use Rattle.ch_order.specs.Legal.{AreAmong, IsLegal, StaysInside, steps};
-ghost use Rattle.ch_order.specs.Walk.{all_placed, rest};
+ghost use Rattle.ch_order.specs.Walk.{rest};
 ghost use Rattle.ch_timed.specs.Conflict.{conflict, reversed};
 ghost use Rattle.ch_timed.specs.Do.{Store, done};
 ghost use Rattle.ch_timed.specs.Flat.{done_flat};
 ghost use Rattle.ch_timed.specs.Members.{In};
 ghost use Rattle.ch_timed.specs.Order.{is_before, overtaken, overtakes};
-ghost use Rattle.ch_timed.specs.Timed.{same_step, step};
+ghost use Rattle.ch_timed.specs.Timed.{is_well_formed, same_step, step};
 
 use crate::bodies::same_body;
 use crate::cells::conflicts;
@@ -36,15 +36,17 @@ fn into_vector(element: Element) -> List<i64>
 
 /// The first element of what is left of a list after a vector, or `None` where nothing is left.
 fn next<T: Timed>(alloc: Global, list: &T, at: &[i64]) -> Result<Option<Element>, AllocError>
-    ensures { IfOk result (λ r. MatchOption r (rest at.now (T.list list.now) ≡ []) (λ e. rest at.now (T.list list.now) ≡ e ∷ rest e.vector (T.list list.now))) }
+    requires { IsTrue (is_well_formed (T.list list.now)) }
+    ensures { IfOk result (λ r. MatchOption r
+        (rest at.now (T.list list.now) ≡ [])
+        (λ e. rest at.now (T.list list.now) ≡ e ∷ rest e.vector (T.list list.now))) }
 {
-    list.known();
     list.after(alloc, at)
 }
 
 /// Whether the list has the step of an element.
 fn has_step<T: Timed>(alloc: Global, list: &T, element: &Element) -> Result<bool, AllocError>
-    requires { IsTrue (all_placed (T.list list.now)) }
+    requires { IsTrue (is_well_formed (T.list list.now)) }
     ensures { IfOk result (λ t. IsTrue t ↔ In (step element.now) (steps (T.list list.now))) }
 {
     let mut at = List::new(alloc);
@@ -59,8 +61,8 @@ fn has_step<T: Timed>(alloc: Global, list: &T, element: &Element) -> Result<bool
 
 /// Whether each step of the first list is one of the second.
 fn has_steps<A: Timed, B: Timed>(alloc: Global, from: &A, into: &B) -> Result<bool, AllocError>
-    requires from { IsTrue (all_placed (A.list from.now)) }
-    requires into { IsTrue (all_placed (B.list into.now)) }
+    requires from { IsTrue (is_well_formed (A.list from.now)) }
+    requires into { IsTrue (is_well_formed (B.list into.now)) }
     ensures { IfOk result (λ t. IsTrue t ↔ AreAmong (A.list from.now) (B.list into.now)) }
 {
     let mut at = List::new(alloc);
@@ -80,8 +82,9 @@ fn stands_before<T: Timed>(
     b: &Element,
     a: &Element,
 ) -> Result<bool, AllocError>
-    requires { IsTrue (all_placed (T.list list.now)) }
-    ensures { IfOk result (λ t. t ≡ is_before same_step (step b.now) (step a.now) (steps (T.list list.now))) }
+    requires { IsTrue (is_well_formed (T.list list.now)) }
+    ensures { IfOk result (λ t. t
+        ≡ is_before same_step (step b.now) (step a.now) (steps (T.list list.now))) }
 {
     let mut at = List::new(alloc);
     while let Some(found) = next(alloc, list, at.as_slice())? {
@@ -103,8 +106,10 @@ fn overtakes<T: Timed>(
     b: &Element,
     a: &Element,
 ) -> Result<bool, AllocError>
-    requires { IsTrue (all_placed (T.list list.now)) }
-    ensures { IfOk result (λ t. t ≡ is_some (overtaken (is_before same_step (step b.now) (step a.now) (steps (T.list list.now))) (step a.now) (step b.now) (conflict (step a.now) (step b.now)))) }
+    requires { IsTrue (is_well_formed (T.list list.now)) }
+    ensures { IfOk result (λ t. t ≡ is_some (overtaken
+        (is_before same_step (step b.now) (step a.now) (steps (T.list list.now)))
+        (step a.now) (step b.now) (conflict (step a.now) (step b.now)))) }
 {
     if !conflicts(a, b) {
         return Ok(false);
@@ -119,8 +124,10 @@ fn is_overtaken<A: Timed, B: Timed>(
     old: &A,
     new: &B,
 ) -> Result<bool, AllocError>
-    requires { IsTrue (all_placed (B.list new.now)) }
-    ensures { IfOk result (λ t. t ≡ is_some (overtakes same_step conflict (step a.now) (steps (rest a.now.vector (A.list old.now))) (steps (B.list new.now)))) }
+    requires old { IsTrue (is_well_formed (A.list old.now)) }
+    requires new { IsTrue (is_well_formed (B.list new.now)) }
+    ensures { IfOk result (λ t. t ≡ is_some (overtakes same_step conflict
+        (step a.now) (steps (rest a.now.vector (A.list old.now))) (steps (B.list new.now)))) }
 {
     let mut at = List::from_slice(alloc, a.vector.as_slice())?;
     while let Some(b) = next(alloc, old, at.as_slice())? {
@@ -134,8 +141,8 @@ fn is_overtaken<A: Timed, B: Timed>(
 
 /// Whether a pair of conflicting elements is the other way round in the new list.
 fn has_reversed<A: Timed, B: Timed>(alloc: Global, old: &A, new: &B) -> Result<bool, AllocError>
-    requires old { IsTrue (all_placed (A.list old.now)) }
-    requires new { IsTrue (all_placed (B.list new.now)) }
+    requires old { IsTrue (is_well_formed (A.list old.now)) }
+    requires new { IsTrue (is_well_formed (B.list new.now)) }
     ensures { IfOk result (λ t. t ≡ is_some (reversed (A.list old.now) (B.list new.now))) }
 {
     let mut at = List::new(alloc);
@@ -150,15 +157,15 @@ fn has_reversed<A: Timed, B: Timed>(alloc: Global, old: &A, new: &B) -> Result<b
 
 /// Whether two timed lists have the same steps, each once, and no two of them that conflict stand the other way round.
 ///
-/// Then both do the same to every store, and to all flat arrays that have each cell which they access. No vector may be
-/// empty: a walk from the empty vector on would miss it. `Err` where memory runs out. The number of calls of `Timed::after` is at
-/// most about the third power of the lists' length.
+/// Then both do the same to every store, and to all flat arrays that have each cell which they access. `Err` where memory
+/// runs out. The number of calls of `Timed::after` is at most about the third power of the lists' length.
 pub fn same_meaning<A: Timed, B: Timed>(alloc: Global, old: &A, new: &B) -> Result<bool, AllocError>
-    requires old { IsTrue (all_placed (A.list old.now)) }
-    requires new { IsTrue (all_placed (B.list new.now)) }
     ensures legal { IfOk result (λ t. IsTrue t ↔ IsLegal (A.list old.now) (B.list new.now)) }
-    ensures store { IfOk result (λ t. IsTrue t → (store : Store) → done (A.list old.now) store ≡ done (B.list new.now) store) }
-    ensures flat { IfOk result (λ t. IsTrue t → (arrays : List ArrayDecl) → StaysInside arrays (A.list old.now) → (cells : List ℤ) → done_flat arrays (A.list old.now) cells ≡ done_flat arrays (B.list new.now) cells) }
+    ensures store { IfOk result (λ t. IsTrue t → (store : Store)
+        → done (A.list old.now) store ≡ done (B.list new.now) store) }
+    ensures flat { IfOk result (λ t. IsTrue t
+        → (arrays : List ArrayDecl) → StaysInside arrays (A.list old.now) → (cells : List ℤ)
+        → done_flat arrays (A.list old.now) cells ≡ done_flat arrays (B.list new.now) cells) }
 {
     old.known();
     new.known();

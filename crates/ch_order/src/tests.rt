@@ -1,10 +1,13 @@
-//! Lists of two instances of `A[i mod 2] = number`, and a list of none.
+//! Each law can be called, and lists of two instances of `A[i mod 2] = number`, and a list of none.
 
-ghost use Rattle.std.specs.Prelude.{◌≡◌, pos, true, false, IfOk, [], ◌∷◌};
-ghost use Rattle.ch_order.specs.Samples.{body, instance, named, pair};
+ghost use Rattle.std.specs.Prelude.{◌≡◌, true, false, IfOk, [], ◌∷◌};
+ghost use Rattle.ch_order.specs.Samples.{body, instance, named, pair, parity};
 ghost use Rattle.ch_timed.specs.Vectors.{comes_before};
 
-use crate::same_meaning;
+use crate::{
+    arrays_hold_the_store, legal_does_same, legal_steps_do_same, neighbours_change_places,
+    same_meaning,
+};
 use ch_affine::{Aff, List};
 use ch_nest::{Access, Body, Expr, Sub};
 use ch_timed::{Element, Identity, Label, Timed};
@@ -22,7 +25,7 @@ struct Pair {
 #[derive(Clone, Copy)]
 struct Nothing;
 
-fn one<T: Drop>(alloc: Global, item: T) -> Result<List<T>, AllocError>
+pub(crate) fn one<T: Drop>(alloc: Global, item: T) -> Result<List<T>, AllocError>
     ensures { IfOk result (λ list. list ≡ item ∷ []) }
 {
     let mut list = List::new(alloc);
@@ -46,7 +49,7 @@ fn identity(alloc: Global, other: bool, i: i64) -> Result<Identity, AllocError>
 }
 
 fn sub(alloc: Global) -> Result<Sub, AllocError>
-    ensures { IfOk result (λ it. it ≡ record { form = record { coefs = pos 1 ∷ []; constant = pos 0 }; modulus = 2 }) }
+    ensures { IfOk result (λ it. it ≡ parity) }
 {
     let form = Aff {
         coefs: one(alloc, 1)?,
@@ -84,7 +87,7 @@ fn instance(
     })
 }
 
-fn precedes(vector: &[i64], place: i64) -> bool
+pub(crate) fn precedes(vector: &[i64], place: i64) -> bool
     ensures { result ≡ comes_before vector.now (place ∷ []) }
 {
     let other: &[i64] = &[place];
@@ -137,6 +140,14 @@ fn turned(i: i64, number: i64) -> Pair
         i,
         number,
     }
+}
+
+#[test]
+fn laws_are_called() {
+    legal_does_same();
+    legal_steps_do_same();
+    neighbours_change_places();
+    arrays_hold_the_store();
 }
 
 #[test]

@@ -1,15 +1,17 @@
 -- What the type of a space keeps.
-use Rattle.std.specs.Prelude.{◌≡◌, ◌≢◌, ℕ, ℤ, pos, ◌+◌, ◌*◌, ◌<◌, ◌≤◌, ◌^◌, Bool, true, ◌&&◌, nat_lt, IsTrue, List, [], ◌∷◌, ◌++◌, length, map}
+use Rattle.std.specs.Prelude.{◌≡◌, ◌≢◌, ℕ, ℤ, pos, ◌+◌, ◌*◌, ◌<◌, ◌≤◌, ◌^◌, Bool, true, ◌&&◌, nat_lt, IsTrue, List, [], ◌∷◌, ◌++◌, length, map, take}
 use Rattle.std.specs.List.{All, flat_map, sum}
 use Rattle.std.specs.Ordering.{int_cmp}
 use Rattle.std.specs.declared.cmp.Ordering.TheVariants.{Less}
 use Rattle.std.specs.Cmp.Lexicographic.{slice_cmp}
-use Rattle.ch_affine.specs.Affine.{IsAtMost}
+use Rattle.ch_affine.specs.Affine.{IsAtMost, value}
+use Rattle.ch_affine.specs.declared.system.Range.{Range}
 use Rattle.ch_nest.specs.declared.nest.Access.{Access}
 use Rattle.ch_nest.specs.declared.nest.Body.{Body}
 use Rattle.ch_nest.specs.declared.nest.Expr.{Expr}
 use Rattle.ch_nest.specs.declared.nest.Expr.TheOpen.{Expr-F}
 use Rattle.ch_nest.specs.declared.nest.Expr.TheFolds.{fold-Expr}
+use Rattle.ch_nest.specs.declared.nest.Sub.{Sub}
 use Rattle.ch_space.specs.declared.piece.Piece.{Piece}
 use Rattle.ch_space.specs.Pieces.{instances, listed}
 use Rattle.ch_timed.specs.Conflict.{reads}
@@ -23,6 +25,30 @@ most_instances = 2097152
 
 abbrev pub most_arrays : ℕ
 most_arrays = 262144
+
+abbrev pub most_pieces : ℕ
+most_pieces = 256
+
+abbrev pub most_levels : ℕ
+most_levels = 10
+
+abbrev pub most_iterators : ℕ
+most_iterators = 16
+
+abbrev pub most_commands : ℕ
+most_commands = 32
+
+abbrev pub most_weight : ℕ
+most_weight = 2 ^ 20
+
+-- the most hidden values of a piece that so many commands made
+abbrev pub most_hidden : ℕ → ℕ
+most_hidden commands = 6 + 16 * commands
+
+-- The greatest magnitude of a level's value. The iterators of a nest have magnitude at most 2^30; a command moves a value by at most
+-- 2^20, or multiplies it by no more than it multiplies the weight.
+abbrev pub farthest : ℕ → ℕ → ℕ
+farthest weight commands = weight * (2 ^ 30 + commands * 2 ^ 20)
 
 -- A piece has one place more than levels, its system the levels and the hidden values with a range for each, and its origin gives
 -- iterators from the levels.
@@ -75,18 +101,40 @@ pub record IsBody (arrays temps iters : ℕ) (b : Body) : Type 0 where
   pub iterators : IsTrue (iters_below iters b.right)
   pub accesses : All (IsAccess arrays temps iters) (accesses b)
 
+-- both ends have at most that magnitude
+pub record IsNear (bound : ℕ) (b : Range) : Type 0 where
+  pub low : IsAtMost bound b.low
+  pub high : IsAtMost bound b.high
+
+-- a subscript with a modulus has a form whose value has magnitude at most 2^54
+abbrev pub IsWrapped : List ℤ → Sub → Type 0
+IsWrapped iters s = (s.modulus ≢ 0) → IsAtMost (2 ^ 54) (value s.form iters)
+
+-- How large a piece may be after so many commands with this weight.
+pub record IsSmall (weight commands : ℕ) (p : Piece) : Type 0 where
+  pub levels : p.levels ≤ most_levels
+  pub hidden : p.hidden ≤ most_hidden commands
+  pub origin : length p.origin ≤ most_iterators
+  pub boxes : All (IsNear (farthest weight commands)) (take p.levels p.system.boxes)
+
 abbrev pub IsMoveBelow : ℕ → Label → Type 0
 IsMoveBelow n (Stmt k) = Unit {0}
 IsMoveBelow n (Move k) = k < n
 
-pub record IsSpace (arrays : ℕ) (pieces : List Piece) (counts : List ℕ) (temps : List (List ℕ)) (commands : ℕ) : Type 0 where
+pub record IsSpace (arrays : ℕ) (pieces : List Piece) (counts : List ℕ) (temps : List (List ℕ)) (weight commands : ℕ) : Type 0 where
   pub apart : AreApart pieces
   pub well_formed : IsTrue (is_well_formed (listed pieces))
   pub counted : counts ≡ map (λ p. length (instances p)) pieces
   pub few : sum counts ≤ most_instances
   pub few_arrays : arrays ≤ most_arrays
+  pub few_pieces : length pieces ≤ most_pieces
+  pub few_commands : commands ≤ most_commands
+  pub heavy : 1 ≤ weight
+  pub light : weight ≤ most_weight
+  pub small : All (IsSmall weight commands) pieces
   pub bodies : All (λ p. IsBody arrays (length temps) (length p.origin) p.body) pieces
   -- accesses of one array have equally many subscripts
   pub agree : (a b : Access) → In a (flat_map (λ p. accesses p.body) pieces) → In b (flat_map (λ p. accesses p.body) pieces) → a.array ≡ b.array → length a.subs ≡ length b.subs
   pub moves : All (λ p. IsMoveBelow (256 * commands) p.label) pieces
   pub near : All (λ e. All (IsAtMost (2 ^ 54)) e.identity.iters) (listed pieces)
+  pub wrapped : All (λ e. All (λ a. All (IsWrapped e.identity.iters) a.subs) (accesses e.body)) (listed pieces)

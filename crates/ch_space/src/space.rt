@@ -5,7 +5,8 @@ use std::marker::Model;
 /// A timed list as pieces. Contracts see the list, and beside it what commands keep count of.
 ///
 /// By its type each piece has an instance, the pieces stand in the order of their places, and the list is well formed; there are
-/// at most 2,097,152 instances; every array, iterator and subscript that a body uses exists.
+/// at most 256 pieces and 2,097,152 instances, 10 levels and 32 commands; every array, iterator and subscript that a body uses
+/// exists.
 #[derive(Debug, Drop)]
 pub struct Space {
     /// How many arrays are declared; the numbers from there on are those of buffers.
@@ -34,5 +35,5 @@ impl Model for Space {
 
     ghost view = { λ s. record { list = listed s.pieces; arrays = s.arrays; temps = s.temps; weight = s.weight; commands = s.commands } };
 
-    ghost invariant = { λ s. IsSpace s.arrays s.pieces s.counts s.temps s.commands };
+    ghost invariant = { λ s. IsSpace s.arrays s.pieces s.counts s.temps s.weight s.commands };
 }

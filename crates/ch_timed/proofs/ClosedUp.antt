@@ -18,6 +18,7 @@ use Rattle.ch_timed.proofs.Closing.{below_less, in_follows}
 use Rattle.ch_timed.proofs.Orders.{IsAscending, map_in, to_order}
 use Rattle.ch_timed.proofs.Prefixes.{apart}
 use Rattle.ch_timed.proofs.Sorted.{ascends_adjacent, ascends_ordered, adjacent_ascends}
+use Rattle.ch_timed.proofs.Woven.{closed_is_vector, moved_vectors}
 
 int_more : (p q : ℤ) → q <ℤ p → int_cmp p q ≡ Greater
 int_more p q l = int_cmp_total.antisymm p q ∙ ap ordering_reverse (int_less q p l)
@@ -160,6 +161,8 @@ pub closed_fine : (list : List Element) → is_well_formed list ≡ true → is_
 closed_fine list h =
     let a = and_parts _ _ h in
     let b = and_parts _ _ a.1 in
+    let d = and_parts _ _ b.1 in
     subst (λ z. is_well_formed z ≡ true) (sym (stays_placed list b.0))
     (and_from _ _ (differ_moved (closed_vector list) list ∙ a.0)
-    (and_from _ _ (ascends_adjacent _ (closed_ascends list b.0)) (moved_apart (closed_vector list) list (closed_apart list) ∙ b.1)))
+    (and_from _ _ (ascends_adjacent _ (closed_ascends list b.0))
+    (and_from _ _ (moved_apart (closed_vector list) list (closed_apart list) ∙ d.0) (moved_vectors (closed_vector list) list (closed_is_vector list) d.1))))

@@ -10,3 +10,4 @@ pub mod Program
 pub mod Rolls
 pub mod Sorted
 pub mod WellFormed
+pub mod Woven

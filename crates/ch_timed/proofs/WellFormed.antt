@@ -13,6 +13,7 @@ use Rattle.ch_timed.proofs.Identities.{Differ, Pairwise, all_differ}
 use Rattle.ch_timed.proofs.Orders.{each_more}
 use Rattle.ch_timed.proofs.Prefixes.{Apart, Across, all_apart}
 use Rattle.ch_timed.proofs.Sorted.{ascends_adjacent}
+use Rattle.ch_timed.proofs.Woven.{start_vectors}
 
 new_by : (x : Element) (xs : List Element) → Each (Differ x) xs → is_new x.identity xs ≡ true
 new_by x [] h = refl
@@ -39,4 +40,5 @@ pub start_fine : (nest : LoopNest) → is_nest nest ≡ true → is_well_formed 
 start_fine nest h =
     let number = some_of (all_numbered nest.items 0) (and_parts _ _ (and_parts _ _ h).1).0 in
     and_from _ _ (differ_by (start nest) (all_differ nest.items number.0 number.1))
-    (and_from _ _ (ascends_adjacent (start nest) (start_ascends nest)) (apart_by (start nest) (all_apart nest.items)))
+    (and_from _ _ (ascends_adjacent (start nest) (start_ascends nest))
+    (and_from _ _ (apart_by (start nest) (all_apart nest.items)) (start_vectors nest.items)))

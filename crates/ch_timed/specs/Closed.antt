@@ -20,7 +20,9 @@ put_number x (y ∷ ys) = if int_eq x y then y ∷ ys else y ∷ put_number x ys
 abbrev pub follows : List ℤ → List (List ℤ) → List ℤ
 follows front [] = []
 follows front (ps ∷ pss) =
-    if same_numbers front (take (length front) ps) && nat_lt (length front) (length ps) then put_number (slice_index_or ps (length front) (pos 0)) (follows front pss) else follows front pss
+    if same_numbers front (take (length front) ps) && nat_lt (length front) (length ps)
+    then put_number (slice_index_or ps (length front) (pos 0)) (follows front pss)
+    else follows front pss
 
 abbrev pub count_less : Ordering → ℕ → ℕ
 count_less Less n = n + 1

@@ -56,7 +56,8 @@ chosen false c more = more
 -- the first of these cells that both access, one of the two writing it
 abbrev pub clash : List Cell → List Cell → List Cell → Option Cell
 clash ours theirs [] = None
-clash ours theirs (c ∷ cs) = chosen (has_cell c theirs && (writes_cell c ours || writes_cell c theirs)) c (clash ours theirs cs)
+clash ours theirs (c ∷ cs) =
+    chosen (has_cell c theirs && (writes_cell c ours || writes_cell c theirs)) c (clash ours theirs cs)
 
 abbrev pub conflict : Step → Step → Option Cell
 conflict a b = clash (cells_of a) (cells_of b) (cells_of a)

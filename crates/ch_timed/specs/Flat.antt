@@ -3,7 +3,7 @@ use Rattle.std.specs.Prelude.{ℕ, ℤ, pos, List, [], ◌∷◌, map, slice_set
 use Rattle.ch_nest.specs.Arrays.{within_array}
 use Rattle.ch_timed.specs.declared.element.Cell.{Cell}
 use Rattle.ch_timed.specs.Conflict.{cell_of, reads, written}
-use Rattle.ch_timed.specs.Do.{Store, right_value}
+use Rattle.ch_timed.specs.Do.{Store}
 use Rattle.ch_nest.specs.declared.nest.ArrayDecl.{ArrayDecl}
 use Rattle.ch_nest.specs.Arrays.{place_in}
 use Rattle.ch_nest.specs.Run.{expr_value, place}
@@ -12,7 +12,9 @@ use Rattle.ch_timed.specs.declared.element.Element.{Element}
 use Rattle.ch_timed.specs.Timed.{Step, step}
 
 abbrev pub execute_flat : List ArrayDecl → Step → List ℤ → List ℤ
-execute_flat arrays s cells = slice_set cells (place arrays s.body.write s.identity.iters) (expr_value arrays s.identity.iters cells s.body.right)
+execute_flat arrays s cells =
+    slice_set cells (place arrays s.body.write s.identity.iters)
+    (expr_value arrays s.identity.iters cells s.body.right)
 
 -- the elements of an ascending list, executed in order
 abbrev pub done_flat : List ArrayDecl → List Element → List ℤ → List ℤ
@@ -24,9 +26,6 @@ place_of arrays c = place_in arrays c.array c.subs
 -- what the cells hold in flat arrays
 abbrev pub look : List ArrayDecl → List ℤ → Store
 look arrays cells c = slice_index_or cells (place_of arrays c) (pos 0)
-
-abbrev pub execute_cells : List ArrayDecl → Step → List ℤ → List ℤ
-execute_cells arrays s cells = slice_set cells (place_of arrays (written s)) (right_value s.identity.iters (look arrays cells) s.body.right)
 
 abbrev pub AllInside : List ArrayDecl → List Cell → Type 0
 AllInside arrays [] = Unit {0}

@@ -50,15 +50,27 @@ vectors_ascend (x ∷ y ∷ more) = comes_before x.vector y.vector && vectors_as
 abbrev pub is_apart : List ℤ → List Element → Bool
 is_apart ps [] = true
 is_apart ps (x ∷ xs) =
-    (same_numbers ps (places x.vector) || (not (begins_with ps (places x.vector)) && not (begins_with (places x.vector) ps))) && is_apart ps xs
+    (same_numbers ps (places x.vector)
+    || (not (begins_with ps (places x.vector)) && not (begins_with (places x.vector) ps)))
+    && is_apart ps xs
 
 abbrev pub pieces_apart : List Element → Bool
 pieces_apart [] = true
 pieces_apart (x ∷ xs) = is_apart (places x.vector) xs && pieces_apart xs
 
--- distinct identities, ascending vectors, and no piece's places a prefix of another's
+-- a place, and then a loop value and a place for each level
+abbrev pub is_vector : List ℤ → Bool
+is_vector [] = false
+is_vector (p ∷ []) = true
+is_vector (p ∷ x ∷ more) = is_vector more
+
+abbrev pub have_vectors : List Element → Bool
+have_vectors [] = true
+have_vectors (x ∷ xs) = is_vector x.vector && have_vectors xs
+
+-- distinct identities, ascending vectors of places and loop values, and no piece's places a prefix of another's
 abbrev pub is_well_formed : List Element → Bool
-is_well_formed list = identities_differ list && (vectors_ascend list && pieces_apart list)
+is_well_formed list = identities_differ list && (vectors_ascend list && (pieces_apart list && have_vectors list))
 
 -- the places of the pieces, ascending: piece k is the k-th
 abbrev pub pieces : List Element → List (List ℤ)

@@ -30,7 +30,8 @@ comes_before xs ys = is_lt (slice_cmp int_cmp xs ys)
 
 -- both have that depth, and the same p0 to p(level - 1)
 abbrev pub shares : ℕ → List ℤ → List ℤ → Bool
-shares level ps qs = (nat_lt level (length ps) && nat_lt level (length qs)) && same_numbers (take level ps) (take level qs)
+shares level ps qs =
+    (nat_lt level (length ps) && nat_lt level (length qs)) && same_numbers (take level ps) (take level qs)
 
 abbrev pub begins_with : List ℤ → List ℤ → Bool
 begins_with xs vs = same_numbers xs (take (length xs) vs)

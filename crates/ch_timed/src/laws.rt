@@ -14,7 +14,8 @@ ghost use Rattle.ch_timed.specs.Vectors.{comes_before};
 
 /// A run of a nest executes the elements of its list, one after another.
 pub fn start_is_run()
-    ensures { (nest : LoopNest) (cells : List ℤ) → run nest cells ≡ done_flat nest.arrays (start nest) cells }
+    ensures { (nest : LoopNest) (cells : List ℤ)
+        → run nest cells ≡ done_flat nest.arrays (start nest) cells }
 {}
 
 /// The list of a nest is in the order of its vectors.
@@ -31,8 +32,13 @@ pub fn start_well_formed()
 /// Closing up changes no identity and no body, and keeps which of two elements comes first. So the elements of a list in
 /// order stay where they stand, the same steps are executed, and the list stays well formed.
 pub fn closing_keeps_order()
-    ensures vectors { (list : List Element) (e f : Element) → In e list → In f list → comes_before (closed_vector list e) (closed_vector list f) ≡ comes_before e.vector f.vector }
-    ensures places_stay { (list : List Element) → IsTrue (vectors_ascend list) → closed_up list ≡ map (λ e. at_vector e (closed_vector list e)) list }
-    ensures steps { (list : List Element) → IsTrue (vectors_ascend list) → map step (closed_up list) ≡ map step list }
-    ensures well_formed { (list : List Element) → IsTrue (is_well_formed list) → IsTrue (is_well_formed (closed_up list)) }
+    ensures vectors { (list : List Element) (e f : Element) → In e list → In f list
+        → comes_before (closed_vector list e) (closed_vector list f)
+        ≡ comes_before e.vector f.vector }
+    ensures places_stay { (list : List Element) → IsTrue (vectors_ascend list)
+        → closed_up list ≡ map (λ e. at_vector e (closed_vector list e)) list }
+    ensures steps { (list : List Element) → IsTrue (vectors_ascend list)
+        → map step (closed_up list) ≡ map step list }
+    ensures well_formed { (list : List Element) → IsTrue (is_well_formed list)
+        → IsTrue (is_well_formed (closed_up list)) }
 {}

@@ -1,5 +1,5 @@
 //! Timed lists: the statement instances of a program, each with the vector that says when it is executed. What such a list
-//! does to a store, when two of its elements conflict, the list of a nest, and what the commands do to vectors.
+//! does to a store, when two of its elements conflict, the list of a nest, and what closing places up does to a list.
 #![tactic(auto)]
 
 mod element;
@@ -9,3 +9,6 @@ mod timed;
 pub use element::{Cell, Element, Identity, Label};
 pub use laws::{closing_keeps_order, start_in_order, start_is_run, start_well_formed};
 pub use timed::Timed;
+
+#[cfg(test)]
+mod tests;
