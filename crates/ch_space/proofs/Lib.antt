@@ -9,6 +9,7 @@ pub mod PieceElements
 pub mod PieceNumbers
 pub mod Readings
 pub mod Bodies
+pub mod NestLimits
 pub mod Assembled
 pub mod Turning
 pub mod EndsOf
