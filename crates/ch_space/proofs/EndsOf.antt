@@ -19,6 +19,7 @@ use Rattle.ch_timed.specs.declared.element.Identity.{Identity}
 use Rattle.ch_timed.proofs.Orders.{at_each, map_in, not_both, not_itself}
 use Rattle.ch_space.specs.declared.piece.Piece.{Piece}
 use Rattle.ch_space.specs.Pieces.{element_at, instances, elements, listed}
+use Rattle.ch_space.specs.Following.{UpTo}
 use Rattle.ch_space.specs.Keeps.{IsWhole, AreApart}
 use Rattle.ch_space.specs.Members.{members, identities, last}
 use Rattle.ch_space.specs.Turned.{negatives, turned}
@@ -26,10 +27,6 @@ use Rattle.ch_space.proofs.Membership.{in_instances, instances_in, inside_take, 
 use Rattle.ch_space.proofs.PieceElements.{ListsAscend, Comes, levels_of, box_ascends, filter_ascends, instances_ascend}
 use Rattle.ch_space.proofs.PieceNumbers.{members_are, all_in, listed_in}
 use Rattle.ch_space.proofs.Turning.{twice, point_turned, turned_point, point_inside, point_length, opposite, inside_small, point_small}
-
--- it is the other or comes before it
-abbrev pub UpTo : List ℤ → List ℤ → Type 0
-UpTo xs ys = (xs ≡ ys) ⊎ Comes xs ys
 
 abbrev itself : List ℤ → List ℤ
 itself v = v
@@ -86,7 +83,7 @@ take_comes (suc n) (x ∷ p) (y ∷ q) l h = take_by x y p q (int_cmp x y) refl 
     same_of : (x y : ℤ) → int_cmp x y ≡ Equal → x ≡ y
     same_of x y e = Rattle.std.specs.FinMap.int_cmp-IsAntisymmetric x y e
 
-take_up_to : (n : ℕ) (p q : List ℤ) → length p ≡ length q → UpTo p q → UpTo (take n p) (take n q)
+pub take_up_to : (n : ℕ) (p q : List ℤ) → length p ≡ length q → UpTo p q → UpTo (take n p) (take n q)
 take_up_to n p q l (inl e) = inl (ap (take n) e)
 take_up_to n p q l (inr c) = take_comes n p q l c
 
@@ -130,7 +127,7 @@ greatest_front p q w f =
     let before = first_before (points (turned p.system)) q (points_ascend (turned p.system)) f (negatives r.0) (point_turned p.system r.0 r.1.0) in
     subst (λ z. UpTo z (take p.levels (negatives q))) r.1.1 (take_up_to p.levels r.0 (negatives q) same (up_to_negative q r.0 far before)))
 
-none_first : (xs : List (List ℤ)) → first xs ≡ None → (e : List ℤ) → In e xs → ⊥
+pub none_first : (xs : List (List ℤ)) → first xs ≡ None → (e : List ℤ) → In e xs → ⊥
 none_first [] f e i = i
 none_first (x ∷ xs) f e i = cc
 

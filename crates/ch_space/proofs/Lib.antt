@@ -23,3 +23,7 @@ pub mod Short
 pub mod NextPlaces
 pub mod ClosedPieces
 pub mod PlacesInOrder
+pub mod Followings
+pub mod Narrowed
+pub mod NextElements
+pub mod LeastAfter

@@ -6,6 +6,7 @@ pub mod Built
 pub mod Members
 pub mod Fitting
 pub mod Turned
+pub mod Following
 pub mod Judged
 pub mod Judges
 pub mod Judging

@@ -119,7 +119,7 @@ fn opposite(alloc: Global, numbers: &[i64]) -> Result<List<i64>, AllocError>
 }
 
 /// The identity of a piece's element at one of its instances.
-fn identity_at(alloc: Global, piece: &Piece, instance: &[i64]) -> Result<Identity, AllocError>
+pub(crate) fn identity_at(alloc: Global, piece: &Piece, instance: &[i64]) -> Result<Identity, AllocError>
     requires whole { IsWhole piece.now }
     requires one { In instance.now (instances piece.now) }
     requires near { All (λ e. All (IsAtMost (2 ^ 54)) e.identity.iters) (elements piece.now) }
@@ -137,7 +137,7 @@ fn identity_at(alloc: Global, piece: &Piece, instance: &[i64]) -> Result<Identit
 }
 
 /// Tells a caller what each system keeps by its type. It does nothing.
-fn known(system: &System)
+pub(crate) fn known(system: &System)
     ensures { IsSystem system.now }
 {
     let _ = system.boxes.len();
