@@ -25,7 +25,6 @@ mod rows;
 mod space;
 mod turns;
 
-pub use accesses::Leaving;
 pub use closing::close_up;
 pub use error::SpaceError;
 pub use extremes::ends;

@@ -1,6 +1,6 @@
 ghost use Rattle.std.specs.Prelude.{◌≡◌, ◌≤◌, [], length, IfOk};
 ghost use Rattle.ch_space.specs.Judged.{judgement};
-ghost use Rattle.ch_space.specs.Judges.{Judges};
+ghost use Rattle.ch_space.specs.Judged.{Judges};
 ghost use Rattle.ch_nest.specs.Limits.{most_work};
 ghost use Rattle.ch_nest.specs.Sound.{items_work};
 ghost use Rattle.ch_timed.specs.Start.{start};
