@@ -7,9 +7,10 @@ use Rattle.ch_nest.specs.declared.nest.Access.{Access}
 use Rattle.ch_nest.specs.declared.nest.Sub.{Sub}
 use Rattle.ch_nest.specs.declared.nest.Expr.TheFolds.{fold-roll-Expr}
 use Rattle.ch_nest.specs.declared.nest.Expr.TheVariants.{Number, rolls-Number}
-use Rattle.ch_space.specs.Keeps.{IsWhole, AreApart, IsAccess, IsBody, IsSpace, IsMoveBelow, accesses, iters_below, iters_below_step}
+use Rattle.ch_space.specs.Keeps.{IsWhole, AreApart, IsAccess, IsBody, IsBounded, IsLimited, IsSpace, IsMoveBelow, accesses, farthest, iters_below, iters_below_step}
 use Rattle.ch_space.specs.declared.piece.Piece.{Piece}
 use Rattle.ch_space.specs.Pieces.{element_at, instances, listed}
+use Rattle.ch_space.proofs.NestLimits.{unwrapped}
 use Rattle.ch_timed.proofs.Rolls.{reads_number}
 use Rattle.ch_timed.specs.declared.element.Element.{Element}
 use Rattle.ch_timed.specs.Members.{In}
@@ -90,21 +91,39 @@ IsFine p = IsBody 1 0 (length p.origin) p.body
 abbrev IsStatement : Piece → Type 0
 IsStatement p = IsMoveBelow 0 p.label
 
-small_space : IsSpace 1 both (2 ∷ 1 ∷ []) [] 0
+bodies : All IsFine both
+bodies = all_more IsFine (piece 0 (pos 0)) (piece 1 (pos 1) ∷ []) is_body (all_more IsFine (piece 1 (pos 1)) [] is_body (all_none _))
+
+limited : (number : ℕ) (low : ℤ) → IsAtMost (farthest 1 0) low → IsLimited 1 0 (piece number low)
+limited number low h = record {
+  levels = omega arith;
+  iterators = omega arith;
+  variables = omega arith;
+  boxes = all_more (IsBounded (farthest 1 0)) _ [] (record { low = h; high = omega (arith, ints) }) (all_none _);
+}
+
+small_space : IsSpace 1 both (2 ∷ 1 ∷ []) [] 1 0
 small_space = record {
   apart = apart;
   well_formed = refl;
   counted = refl;
   few = omega arith;
   few_arrays = omega arith;
-  bodies = all_more IsFine (piece 0 (pos 0)) (piece 1 (pos 1) ∷ []) is_body (all_more IsFine (piece 1 (pos 1)) [] is_body (all_none _));
+  few_pieces = omega arith;
+  few_commands = omega arith;
+  some_weight = omega arith;
+  small_weight = omega arith;
+  limited = all_more (IsLimited 1 0) (piece 0 (pos 0)) (piece 1 (pos 1) ∷ []) (limited 0 (pos 0) (omega (arith, ints)))
+      (all_more (IsLimited 1 0) (piece 1 (pos 1)) [] (limited 1 (pos 1) (omega (arith, ints))) (all_none _));
+  bodies = bodies;
   agree = λ a b i j same.
       let p = is_written a (subst (In a) all_accesses i) in
       let q = is_written b (subst (In b) all_accesses j) in
       ap (λ x. length x.subs) (sym p ∙ q);
   moves = all_more IsStatement (piece 0 (pos 0)) (piece 1 (pos 1) ∷ []) tt (all_more IsStatement (piece 1 (pos 1)) [] tt (all_none _));
   near = near;
+  wrapped = unwrapped 1 both bodies;
 }
 
-pub is_space : (pieces : List Piece) (counts : List ℕ) (temps : List (List ℕ)) → pieces ≡ both → counts ≡ 2 ∷ 1 ∷ [] → temps ≡ [] → IsSpace 1 pieces counts temps 0
-is_space pieces counts temps p c t = subst (λ x. IsSpace 1 x counts temps 0) (sym p) (subst (λ x. IsSpace 1 both x temps 0) (sym c) (subst (λ x. IsSpace 1 both (2 ∷ 1 ∷ []) x 0) (sym t) small_space))
+pub is_space : (pieces : List Piece) (counts : List ℕ) (temps : List (List ℕ)) → pieces ≡ both → counts ≡ 2 ∷ 1 ∷ [] → temps ≡ [] → IsSpace 1 pieces counts temps 1 0
+is_space pieces counts temps p c t = subst (λ x. IsSpace 1 x counts temps 1 0) (sym p) (subst (λ x. IsSpace 1 both x temps 1 0) (sym c) (subst (λ x. IsSpace 1 both (2 ∷ 1 ∷ []) x 1 0) (sym t) small_space))

@@ -13,7 +13,7 @@ use ch_code::code_text;
 use ch_codegen::generate;
 use ch_deck::Program;
 use ch_print::{put_identity, put_label, put_number};
-use ch_space::{Space, count, ends, label, piece_count, pieces, places, sound_space};
+use ch_space::{Space, count, ends, label, piece_count, pieces, places, space_of};
 use ch_timed::{Identity, Label};
 use std::alloc::{AllocError, Global};
 
@@ -103,7 +103,7 @@ fn put_shown(alloc: Global, out: &mut Text, program: &Program) -> Result<(), All
     requires { IsTrue (is_sound program.now.nest) }
     ensures { OnOk result (Adds (Shows program.now) out.old out.new) }
 {
-    let space = sound_space(alloc, &program.nest)?;
+    let space = space_of(alloc, &program.nest)?;
     put_program_line(out, &program.name, pieces(&space), count(&space))?;
     put_pieces(alloc, out, &space)?;
     let unit = generate(alloc, &program.nest, &space)?;

@@ -5,6 +5,7 @@ use Rattle.std.specs.Option.{is_some}
 use Rattle.std.specs.List.{All, filter, flat_map, list_all, sum}
 use Rattle.std.proofs.lemmas.Bool.{and_parts, lt-ltb, ltb-true}
 use Rattle.std.proofs.lemmas.Int.{ints}
+use Rattle.std.proofs.lemmas.List.{length-map}
 use Rattle.std.proofs.lemmas.List.Elements.{All-nil, All-cons}
 use Rattle.std.specs.Ordering.{int_cmp}
 use Rattle.std.specs.declared.cmp.Ordering.TheVariants.{Less}
@@ -22,7 +23,7 @@ use Rattle.ch_nest.proofs.Corners.{lies_small}
 use Rattle.ch_space.specs.declared.level.Level.{Level}
 use Rattle.ch_space.specs.declared.piece.Piece.{Piece}
 use Rattle.ch_space.specs.Built.{zeros, unit, units, boxes_from, piece_of}
-use Rattle.ch_space.specs.Keeps.{IsWhole, places_of, AllLater, AreApart, accesses, IsBody, IsMoveBelow, IsSpace}
+use Rattle.ch_space.specs.Keeps.{IsWhole, places_of, AllLater, AreApart, accesses, IsBody, IsLimited, IsMoveBelow, IsSpace, most_pieces}
 use Rattle.ch_space.specs.Pieces.{element_at, elements, instances, listed}
 use Rattle.ch_space.specs.Statements.{Statement, statements, executed, instances_of}
 use Rattle.ch_space.specs.Fitting.{LevelsFit}
@@ -30,6 +31,7 @@ use Rattle.ch_space.proofs.Bodies.{all_from_each, each_in, few_arrays, Fits, bod
 use Rattle.ch_space.proofs.Counted.{in_instances, instances_in, instances_counted}
 use Rattle.ch_space.proofs.Findings.{element_of, start_found, found_start}
 use Rattle.ch_space.proofs.Membership.{in_flat, flat_in, in_filter, filter_in}
+use Rattle.ch_space.proofs.NestLimits.{few_executed, length_units, limited, unwrapped}
 use Rattle.ch_space.proofs.PieceElements.{each_from_in}
 use Rattle.ch_space.proofs.Rowed.{dot_zeros, dot_front, one_times, lies_between}
 use Rattle.ch_space.proofs.Shapes.{length_boxes, IsFit, Shape, shaped, key, IsEarlier}
@@ -77,10 +79,6 @@ units_fit before (suc n) =
     let b = length_zeros before in
     let c = length_zeros n in
     (omega arith, subst (λ m. Each (λ f. length f.coefs ≡ m) (units (suc before) n)) (omega arith) (units_fit (suc before) n))
-
-length_units : (before n : ℕ) → length (units before n) ≡ n
-length_units before zero = refl
-length_units before (suc n) = ap suc (length_units (suc before) n)
 
 -- the pieces that are kept
 
@@ -230,8 +228,15 @@ module _ (nest : LoopNest) (known : IsTrue (is_nest nest)) where
       let n = length s.0.levels in
       (n, each_in (Fits nest.arrays n) (accesses s.0.body) a (body_accesses nest.arrays n s.0.body (fit_of s.0 s.1.0).body) there)
 
+  bodies_kept : All (λ p. IsBody (length nest.arrays) 0 (length p.origin) p.body) (pieces_of nest)
+  bodies_kept = all_from_each (λ p. IsBody (length nest.arrays) 0 (length p.origin) p.body) (pieces_of nest) (each_from_in _ (pieces_of nest) (λ p i.
+      let s = statement_of p i in
+      subst (λ q. IsBody (length nest.arrays) 0 (length q.origin) q.body) s.1.1
+      (subst (λ n. IsBody (length nest.arrays) 0 n s.0.body) (sym (length_units 0 (length s.0.levels)))
+      (is_body nest.arrays (length s.0.levels) s.0.body each_array (fit_of s.0 s.1.0).body))))
+
   -- and they make a space, where the nest does not take too many turns
-  pub assembled : items_work nest.items [] ≤ most_work → IsSpace (length nest.arrays) (pieces_of nest) (counts_of nest) [] 0
+  pub assembled : items_work nest.items [] ≤ most_work → IsSpace (length nest.arrays) (pieces_of nest) (counts_of nest) [] 1 0
   assembled few =
       let a = instances_few nest.items in
       let b = sum_filter (λ s. nat_lt 0 (instances_of s)) (statements nest.items) in
@@ -242,11 +247,13 @@ module _ (nest : LoopNest) (known : IsTrue (is_nest nest)) where
         counted = counted nest.arrays (executed (statements nest.items)) kept_fit;
         few = omega arith;
         few_arrays = omega arith;
-        bodies = all_from_each (λ p. IsBody (length nest.arrays) (length {A = List ℕ} []) (length p.origin) p.body) (pieces_of nest) (each_from_in _ (pieces_of nest) (λ p i.
-            let s = statement_of p i in
-            subst (λ q. IsBody (length nest.arrays) 0 (length q.origin) q.body) s.1.1
-            (subst (λ n. IsBody (length nest.arrays) 0 n s.0.body) (sym (length_units 0 (length s.0.levels)))
-            (is_body nest.arrays (length s.0.levels) s.0.body each_array (fit_of s.0 s.1.0).body))));
+        few_pieces = subst (λ n. n ≤ most_pieces) (sym (length-map (executed (statements nest.items)) piece_of)) (few_executed nest known);
+        few_commands = omega arith;
+        some_weight = omega arith;
+        small_weight = omega arith;
+        limited = all_from_each (IsLimited 1 0) (pieces_of nest) (each_from_in _ (pieces_of nest) (λ p i.
+            let s = statement_of p i in subst (IsLimited 1 0) s.1.1 (limited nest.arrays s.0 (fit_of s.0 s.1.0))));
+        bodies = bodies_kept;
         agree = λ a b i j e.
             let f = fits_access a i in
             let g = fits_access b j in
@@ -255,4 +262,5 @@ module _ (nest : LoopNest) (known : IsTrue (is_nest nest)) where
             subst (λ q. IsMoveBelow (256 * 0) q.label) (statement_of p i).1.1 tt));
         near = subst (λ es. All (λ e. All (IsAtMost (2 ^ 54)) e.identity.iters) es) (sym listed_is)
             (all_from_each (λ e. All (IsAtMost (2 ^ 54)) e.identity.iters) (start nest) (each_from_in _ (start nest) near_of));
+        wrapped = unwrapped (length nest.arrays) (pieces_of nest) bodies_kept;
       }

@@ -1,5 +1,5 @@
 -- Pieces at the ranks of their places stand for the list with its places closed up.
-use Rattle.std.proofs.Common.{◌≡◌, refl, sym, ap, ap₂, ◌∙◌, subst, ℕ, ◌+◌, ◌<◌, ◌≤◌, ◌^◌, ◌*◌, ℤ, pos, IsTrue, List, [], ◌∷◌, ◌++◌, map, length, get_or, set, ◌⊎◌, inl, inr, length-append, arith}
+use Rattle.std.proofs.Common.{◌≡◌, refl, sym, ap, ap₂, ◌∙◌, subst, ℕ, suc, ◌+◌, ◌<◌, ◌≤◌, ◌^◌, ◌*◌, ℤ, pos, IsTrue, List, [], ◌∷◌, ◌++◌, map, length, get_or, set, ◌⊎◌, inl, inr, length-append, arith}
 use Rattle.std.specs.List.{All, flat_map}
 use Rattle.std.specs.Ordering.{int_cmp}
 use Rattle.std.specs.Cmp.Lexicographic.{slice_cmp}
@@ -15,7 +15,7 @@ use Rattle.ch_timed.proofs.Closing.{ranks_less}
 use Rattle.ch_timed.proofs.Orders.{retimed, map_in, in_map}
 use Rattle.ch_space.specs.declared.piece.Piece.{Piece}
 use Rattle.ch_space.specs.Pieces.{element_at, instances, elements, listed}
-use Rattle.ch_space.specs.Keeps.{IsWhole, places_of, AllLater, AreApart, IsSpace, IsBody, IsMoveBelow, accesses}
+use Rattle.ch_space.specs.Keeps.{IsWhole, places_of, AllLater, AreApart, IsSpace, IsBody, IsLimited, IsMoveBelow, IsWrapped, accesses, most_pieces}
 use Rattle.ch_space.specs.Renumbered.{placed, all_placed, AreRanks}
 use Rattle.ch_space.proofs.Membership.{in_append, append_left, append_right}
 use Rattle.ch_space.proofs.PieceElements.{one_each, element_places, element_values, length_pos}
@@ -130,39 +130,45 @@ old_member (p ∷ ps) [] q i = (q, (i, ([], inr refl)))
 old_member (p ∷ ps) (c ∷ cs) q (inl e) = (p, (inl refl, (c, inl (sym e))))
 old_member (p ∷ ps) (c ∷ cs) q (inr i) = let r = old_member ps cs q i in (r.0, (inr r.1.0, r.1.1))
 
-abbrev IsNearby : Element → Type 0
-IsNearby e = All (IsAtMost (2 ^ 54)) e.identity.iters
-
-near_placed : (ps : List Piece) (cs : List (List ℕ)) → AreApart ps → All IsNearby (listed ps) → All IsNearby (listed (all_placed ps cs))
-near_placed ps cs a n =
-    all_in IsNearby (listed (all_placed ps cs))
+-- a fact that does not depend on places holds of all elements
+elements_placed : (P : Element → Type 0) → ((p : Piece) (c : List ℕ) (xs : List ℤ) → P (element_at p xs) → P (element_at (placed p c) xs))
+    → (ps : List Piece) (cs : List (List ℕ)) → AreApart ps → All P (listed ps) → All P (listed (all_placed ps cs))
+elements_placed P h ps cs a n =
+    all_in P (listed (all_placed ps cs))
     (λ e i.
     let s = in_listed (all_placed ps cs) e i in
     let o = old_member ps cs s.piece s.is_piece in
-    subst IsNearby s.is
-    (elim o.1.1.1 as (λ _. IsNearby (element_at s.piece s.instance)) [
-      | inl f ↦
-          let j = subst (λ z. In s.instance (instances z)) f s.is_instance in
-          subst (λ z. IsNearby (element_at z s.instance)) (sym f)
-          (at_all IsNearby (listed ps) (element_at o.0 s.instance) n (listed_in ps o.0 (element_at o.0 s.instance) a o.1.0 (map_in (element_at o.0) (instances o.0) s.instance j)))
-      | inr f ↦
-          let j = subst (λ z. In s.instance (instances z)) f s.is_instance in
-          subst (λ z. IsNearby (element_at z s.instance)) (sym f)
-          (at_all IsNearby (listed ps) (element_at o.0 s.instance) n (listed_in ps o.0 (element_at o.0 s.instance) a o.1.0 (map_in (element_at o.0) (instances o.0) s.instance j)))
+    let old : In s.instance (instances o.0) → P (element_at o.0 s.instance) =
+    λ j. at_all P (listed ps) (element_at o.0 s.instance) n (listed_in ps o.0 (element_at o.0 s.instance) a o.1.0 (map_in (element_at o.0) (instances o.0) s.instance j)) in
+    subst P s.is
+    (elim o.1.1.1 as (λ _. P (element_at s.piece s.instance)) [
+      | inl f ↦ subst (λ z. P (element_at z s.instance)) (sym f) (h o.0 o.1.1.0 s.instance (old (subst (λ z. In s.instance (instances z)) f s.is_instance)))
+      | inr f ↦ subst (λ z. P (element_at z s.instance)) (sym f) (old (subst (λ z. In s.instance (instances z)) f s.is_instance))
     ]))
 
-pub space_closed : (arrays commands : ℕ) (ps : List Piece) (counts : List ℕ) (temps : List (List ℕ)) (cs : List (List ℕ)) → AreRanks (map places_of ps) ps cs → IsSpace arrays ps counts temps commands
-    → IsSpace arrays (all_placed ps cs) counts temps commands
-space_closed arrays commands ps counts temps cs r s = record {
+length_placed : (ps : List Piece) (cs : List (List ℕ)) → length (all_placed ps cs) ≡ length ps
+length_placed [] cs = refl
+length_placed (p ∷ ps) [] = refl
+length_placed (p ∷ ps) (c ∷ cs) = ap suc (length_placed ps cs)
+
+pub space_closed : (arrays weight commands : ℕ) (ps : List Piece) (counts : List ℕ) (temps : List (List ℕ)) (cs : List (List ℕ)) → AreRanks (map places_of ps) ps cs
+    → IsSpace arrays ps counts temps weight commands → IsSpace arrays (all_placed ps cs) counts temps weight commands
+space_closed arrays weight commands ps counts temps cs r s = record {
   apart = apart_placed (map places_of ps) ps cs (places_in ps) r s.apart;
   well_formed = subst (λ z. IsTrue (is_well_formed z)) (sym (list_closed ps cs r s.apart)) (closed_fine (listed ps) s.well_formed);
   counted = s.counted ∙ sym (map_placed (λ p. length (instances p)) (λ p c. refl) ps cs);
   few = s.few;
   few_arrays = s.few_arrays;
+  few_pieces = subst (λ n. n ≤ most_pieces) (sym (length_placed ps cs)) s.few_pieces;
+  few_commands = s.few_commands;
+  some_weight = s.some_weight;
+  small_weight = s.small_weight;
+  limited = all_by (IsLimited weight commands) (λ p c h. record { levels = h.levels; iterators = h.iterators; variables = h.variables; boxes = h.boxes }) ps cs s.limited;
   bodies = all_by (λ p. IsBody arrays (length temps) (length p.origin) p.body) (λ p c h. h) ps cs s.bodies;
   agree = λ x y i j e. s.agree x y (subst (In x) (flat_placed (λ p. accesses p.body) (λ p c. refl) ps cs) i) (subst (In y) (flat_placed (λ p. accesses p.body) (λ p c. refl) ps cs) j) e;
   moves = all_by (λ p. IsMoveBelow (256 * commands) p.label) (λ p c h. h) ps cs s.moves;
-  near = near_placed ps cs s.apart s.near;
+  near = elements_placed (λ e. All (IsAtMost (2 ^ 54)) e.identity.iters) (λ p c xs h. h) ps cs s.apart s.near;
+  wrapped = elements_placed (λ e. All (λ a. All (IsWrapped e.identity.iters) a.subs) (accesses e.body)) (λ p c xs h. h) ps cs s.apart s.wrapped;
 }
 
 -- Pieces placed from the last on.

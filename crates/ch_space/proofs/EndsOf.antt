@@ -1,4 +1,4 @@
--- The first and the last instance of a piece, from the least points of its system and of the turned one.
+-- The first and the last instance of a piece, from the least points of its system and of the negated one.
 use Rattle.std.proofs.Common.{◌≡◌, ◌≢◌, refl, sym, ap, ap₂, ◌∙◌, subst, ℕ, zero, suc, ◌+◌, ◌<◌, ◌≤◌, ◌^◌, ℤ, pos, neg_ℤ, Some, None, List, [], ◌∷◌, ◌++◌, map, length, take, ◌⊎◌, inl, inr, get_or, Result, Ok, Err, IfOk, arith, length-take-le}
 use Rattle.std.specs.declared.alloc.AllocError.{AllocError}
 use Rattle.std.specs.List.{All, flat_map}
@@ -19,17 +19,14 @@ use Rattle.ch_timed.specs.declared.element.Identity.{Identity}
 use Rattle.ch_timed.proofs.Orders.{at_each, map_in, not_both, not_itself}
 use Rattle.ch_space.specs.declared.piece.Piece.{Piece}
 use Rattle.ch_space.specs.Pieces.{element_at, instances, elements, listed}
+use Rattle.ch_space.specs.Following.{UpTo}
 use Rattle.ch_space.specs.Keeps.{IsWhole, AreApart}
 use Rattle.ch_space.specs.Members.{members, identities, last}
-use Rattle.ch_space.specs.Turned.{negatives, turned}
+use Rattle.ch_space.specs.Negated.{negatives, negated}
 use Rattle.ch_space.proofs.Membership.{in_instances, instances_in, inside_take, begins_take, take_begins}
 use Rattle.ch_space.proofs.PieceElements.{ListsAscend, Comes, levels_of, box_ascends, filter_ascends, instances_ascend}
 use Rattle.ch_space.proofs.PieceNumbers.{members_are, all_in, listed_in}
 use Rattle.ch_space.proofs.Turning.{twice, point_turned, turned_point, point_inside, point_length, opposite, inside_small, point_small}
-
--- it is the other or comes before it
-abbrev pub UpTo : List ℤ → List ℤ → Type 0
-UpTo xs ys = (xs ≡ ys) ⊎ Comes xs ys
 
 abbrev itself : List ℤ → List ℤ
 itself v = v
@@ -86,7 +83,7 @@ take_comes (suc n) (x ∷ p) (y ∷ q) l h = take_by x y p q (int_cmp x y) refl 
     same_of : (x y : ℤ) → int_cmp x y ≡ Equal → x ≡ y
     same_of x y e = Rattle.std.specs.FinMap.int_cmp-IsAntisymmetric x y e
 
-take_up_to : (n : ℕ) (p q : List ℤ) → length p ≡ length q → UpTo p q → UpTo (take n p) (take n q)
+pub take_up_to : (n : ℕ) (p q : List ℤ) → length p ≡ length q → UpTo p q → UpTo (take n p) (take n q)
 take_up_to n p q l (inl e) = inl (ap (take n) e)
 take_up_to n p q l (inr c) = take_comes n p q l c
 
@@ -118,19 +115,19 @@ up_to_negative q r l (inl e) = inl (sym (twice r) ∙ ap negatives (sym e))
 up_to_negative q r l (inr c) =
     inr (sym (opposite (negatives q) r (Rattle.std.proofs.lemmas.List.length-map q neg_ℤ ∙ l)) ∙ ap (λ z. slice_cmp int_cmp z (negatives r)) (twice q) ∙ c)
 
-pub greatest_front : (p : Piece) (q : List ℤ) → IsWhole p → first (points (turned p.system)) ≡ Some q → last (instances p) ≡ Some (take p.levels (negatives q))
+pub greatest_front : (p : Piece) (q : List ℤ) → IsWhole p → first (points (negated p.system)) ≡ Some q → last (instances p) ≡ Some (take p.levels (negatives q))
 greatest_front p q w f =
-    let here = first_in (points (turned p.system)) q f in
+    let here = first_in (points (negated p.system)) q f in
     let there = turned_point p.system q here in
     last_is (instances p) (take p.levels (negatives q)) (instances_ascend p) (front_in p (negatives q) there)
     (λ xs i.
     let r = front_of p xs w i in
     let same : length r.0 ≡ length (negatives q) = point_length p.system r.0 r.1.0 ∙ sym (point_length p.system (negatives q) there) in
     let far : length q ≡ length r.0 = sym (Rattle.std.proofs.lemmas.List.length-map q neg_ℤ) ∙ sym same in
-    let before = first_before (points (turned p.system)) q (points_ascend (turned p.system)) f (negatives r.0) (point_turned p.system r.0 r.1.0) in
+    let before = first_before (points (negated p.system)) q (points_ascend (negated p.system)) f (negatives r.0) (point_turned p.system r.0 r.1.0) in
     subst (λ z. UpTo z (take p.levels (negatives q))) r.1.1 (take_up_to p.levels r.0 (negatives q) same (up_to_negative q r.0 far before)))
 
-none_first : (xs : List (List ℤ)) → first xs ≡ None → (e : List ℤ) → In e xs → ⊥
+pub none_first : (xs : List (List ℤ)) → first xs ≡ None → (e : List ℤ) → In e xs → ⊥
 none_first [] f e i = i
 none_first (x ∷ xs) f e i = cc
 
@@ -142,12 +139,12 @@ some_point p w n f = by (instances p) refl n
     by [] e n = n refl
     by (x ∷ xs) e n = let r = front_of p x w (subst (In x) (sym e) (inl refl)) in none_first (points p.system) f r.0 r.1.0
 
-pub some_turned : (p : Piece) → IsWhole p → instances p ≢ [] → first (points (turned p.system)) ≡ None → ⊥
+pub some_turned : (p : Piece) → IsWhole p → instances p ≢ [] → first (points (negated p.system)) ≡ None → ⊥
 some_turned p w n f = by (instances p) refl n
   where
     by : (xs : List (List ℤ)) → instances p ≡ xs → xs ≢ [] → ⊥
     by [] e n = n refl
-    by (x ∷ xs) e n = let r = front_of p x w (subst (In x) (sym e) (inl refl)) in none_first (points (turned p.system)) f (negatives r.0) (point_turned p.system r.0 r.1.0)
+    by (x ∷ xs) e n = let r = front_of p x w (subst (In x) (sym e) (inl refl)) in none_first (points (negated p.system)) f (negatives r.0) (point_turned p.system r.0 r.1.0)
 
 first_map : {X Y : Type 0} (f : X → Y) (xs : List X) (x : X) → first xs ≡ Some x → first (map f xs) ≡ Some (f x)
 first_map f [] x e = cc
@@ -213,11 +210,11 @@ pub least_ok : (p : Piece) (q s : List ℤ) (r : Result (List ℤ) AllocError) �
 least_ok p q s (Ok xs) w f e h = least_front p q w f ∙ ap (λ z. Some z) (sym (h ∙ ap (take p.levels) e))
 least_ok p q s (Err o) w f e h = tt
 
-turned_length : (p : Piece) (q : List ℤ) → first (points (turned p.system)) ≡ Some q → length q ≡ length p.system.boxes
+turned_length : (p : Piece) (q : List ℤ) → first (points (negated p.system)) ≡ Some q → length q ≡ length p.system.boxes
 turned_length p q f =
-    sym (length-map q neg_ℤ) ∙ point_length p.system (negatives q) (turned_point p.system q (first_in (points (turned p.system)) q f))
+    sym (length-map q neg_ℤ) ∙ point_length p.system (negatives q) (turned_point p.system q (first_in (points (negated p.system)) q f))
 
-pub bound_turned : (p : Piece) (t : Rows) (q s : List ℤ) → IsWhole p → t ≡ turned p.system → first (points t) ≡ Some q → s ≡ q → p.levels ≡ length (take p.levels s)
+pub bound_turned : (p : Piece) (t : Rows) (q s : List ℤ) → IsWhole p → t ≡ negated p.system → first (points t) ≡ Some q → s ≡ q → p.levels ≡ length (take p.levels s)
 bound_turned p t q s w u f e =
     let n = few_levels p q w (turned_length p q (subst (λ z. first (points z) ≡ Some q) u f)) in
     sym (length-take-le p.levels s (subst (λ z. p.levels ≤ length z) (sym e) n))
@@ -227,7 +224,7 @@ take_negatives zero q = refl
 take_negatives (suc n) [] = refl
 take_negatives (suc n) (x ∷ q) = ap (λ t. neg_ℤ x ∷ t) (take_negatives n q)
 
-pub greatest_ok : (p : Piece) (t : Rows) (q s : List ℤ) (r : Result (List ℤ) AllocError) → IsWhole p → t ≡ turned p.system → first (points t) ≡ Some q → s ≡ q
+pub greatest_ok : (p : Piece) (t : Rows) (q s : List ℤ) (r : Result (List ℤ) AllocError) → IsWhole p → t ≡ negated p.system → first (points t) ≡ Some q → s ≡ q
     → IfOk r (λ xs. xs ≡ negatives (take p.levels s)) → IfOk r (λ xs. last (instances p) ≡ Some xs)
 greatest_ok p t q s (Ok xs) w u f e h =
     greatest_front p q w (subst (λ z. first (points z) ≡ Some q) u f) ∙ ap (λ z. Some z) (sym (h ∙ take_negatives p.levels s ∙ ap (λ z. take p.levels (negatives z)) e))
@@ -241,7 +238,7 @@ front_small t n q s i f e =
     subst (λ z. All (IsAtMost (2 ^ 60)) (take n z)) (sym e)
     (All-take (IsAtMost (2 ^ 60)) n q (All-weaker (IsAtMost (2 ^ 54)) (IsAtMost (2 ^ 60)) more_than q (point_small t q i (first_in (points t) q f))))
 
-pub no_turned : (p : Piece) (t : Rows) → IsWhole p → instances p ≢ [] → t ≡ turned p.system → first (points t) ≡ None → ⊥
+pub no_turned : (p : Piece) (t : Rows) → IsWhole p → instances p ≢ [] → t ≡ negated p.system → first (points t) ≡ None → ⊥
 no_turned p t w n u f = some_turned p w n (subst (λ z. first (points z) ≡ None) u f)
 
 pub same_at : (p : Piece) (items : List Form) (xs : List ℤ) (k : ℕ) (d : Form) → IsWhole p → In xs (instances p) → items ≡ p.origin → d ≡ get_or items k d → k < length items → length xs ≡ length d.coefs

@@ -209,12 +209,12 @@ arrays_counted nest arrays known is =
     (few_arrays nest.arrays (and_parts (arrays_fit nest.arrays) (is_some (all_numbered nest.items 0) && items_fit nest.arrays nest.items []) known).0)
 
 pub space_kept : (nest : LoopNest) (n : ℕ) (found : Found) (temps : List (List ℕ)) → IsTrue (is_nest nest) → items_work nest.items [] ≤ most_work → n ≡ length nest.arrays
-    → Complete nest found → temps ≡ [] → IsSpace n found.pieces found.counts temps 0
+    → Complete nest found → temps ≡ [] → IsSpace n found.pieces found.counts temps 1 0
 space_kept nest n found temps known few en c et =
-    subst (λ m. IsSpace m found.pieces found.counts temps 0) (sym en)
-    (subst (λ ps. IsSpace (length nest.arrays) ps found.counts temps 0) (sym c.pieces)
-    (subst (λ ns. IsSpace (length nest.arrays) (pieces_of nest) ns temps 0) (sym c.counts)
-    (subst (λ ts. IsSpace (length nest.arrays) (pieces_of nest) (counts_of nest) ts 0) (sym et) (assembled nest known few))))
+    subst (λ m. IsSpace m found.pieces found.counts temps 1 0) (sym en)
+    (subst (λ ps. IsSpace (length nest.arrays) ps found.counts temps 1 0) (sym c.pieces)
+    (subst (λ ns. IsSpace (length nest.arrays) (pieces_of nest) ns temps 1 0) (sym c.counts)
+    (subst (λ ts. IsSpace (length nest.arrays) (pieces_of nest) (counts_of nest) ts 1 0) (sym et) (assembled nest known few))))
 
 pub space_is : (nest : LoopNest) (n : ℕ) (found : Found) (temps : List (List ℕ)) → IsTrue (is_nest nest) → n ≡ length nest.arrays → Complete nest found → temps ≡ []
     → ◌≡◌ {A = Listed} (record { list = listed found.pieces; arrays = n; temps = temps; weight = 1; commands = 0 })

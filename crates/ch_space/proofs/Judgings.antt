@@ -26,8 +26,8 @@ use Rattle.ch_space.specs.declared.error.SpaceError.{SpaceError}
 use Rattle.ch_space.specs.declared.error.SpaceError.TheVariants.{TooMany, OutOfRange, Memory}
 use Rattle.ch_space.specs.declared.judge.Walk.{Walk}
 use Rattle.ch_space.specs.Judged.{accesses_before, first_leaving, first_of, judgement, leaving, leaving_if, or_else, out_of_range, text_accesses}
-use Rattle.ch_space.specs.Judges.{IsRefusal}
-use Rattle.ch_space.specs.Judging.{Search, Ends, GoesOn, Walks, first_turn, item_refusal, items_refusal, refusal_step}
+use Rattle.ch_space.specs.Judged.{IsRefusal}
+use Rattle.ch_space.specs.JudgingWalk.{Search, Ends, GoesOn, Walks, first_turn, item_refusal, items_refusal, refusal_step}
 use Rattle.ch_timed.specs.Conflict.{cell_of, reads, reads_step}
 use Rattle.ch_timed.specs.declared.element.Cell.{Cell}
 use Rattle.ch_timed.specs.declared.element.Element.{Element}

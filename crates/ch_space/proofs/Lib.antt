@@ -9,6 +9,7 @@ pub mod PieceElements
 pub mod PieceNumbers
 pub mod Readings
 pub mod Bodies
+pub mod NestLimits
 pub mod Assembled
 pub mod Turning
 pub mod EndsOf
@@ -22,3 +23,7 @@ pub mod Short
 pub mod NextPlaces
 pub mod ClosedPieces
 pub mod PlacesInOrder
+pub mod Followings
+pub mod Narrowed
+pub mod NextElements
+pub mod LeastAfter

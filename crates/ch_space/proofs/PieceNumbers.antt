@@ -212,3 +212,6 @@ kept_more test n b e = ap (filter test) (range_more 0 n n (omega arith)) ∙ fil
 pub group_is : (ps : List Piece) (k level : ℕ) (d : Piece) → AreApart ps → k < length ps → sharing level (places_of (get_or ps k d)) (map places_of ps) ≡ group (listed ps) k level
 group_is ps k level d a h =
     ap (λ z. sharing level z (map places_of ps)) (sym (nth_places ps k d a h)) ∙ ap (sharing level (piece (listed ps) k)) (sym (numbered ps a))
+
+pub item_in : {X : Type 0} (xs : List X) (k : ℕ) (x : X) → k < length xs → x ≡ get_or xs k x → In x xs
+item_in xs k x h e = subst (λ z. In z xs) (sym e) (nth_in xs k x h)

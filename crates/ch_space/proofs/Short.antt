@@ -17,19 +17,19 @@ use Rattle.ch_nest.specs.LoopNest.{LoopNest}
 use Rattle.ch_nest.specs.Shape.{Numbering, Test, after, all_numbered, all_pass, arrays_fit, box_of, each_numbered, head_fits, is_nest, is_small, item_fits, item_fits_step, items_fit, numbered, numbered_step}
 use Rattle.ch_space.specs.Fitting.{all_true, are_short, is_short, short_step}
 
-record After (o : Option ℕ) (next : Numbering) (m : ℕ) : Type 0 where
-  j : ℕ
-  first : o ≡ Some j
-  rest : next j ≡ Some m
+pub record After (o : Option ℕ) (next : Numbering) (m : ℕ) : Type 0 where
+  pub j : ℕ
+  pub first : o ≡ Some j
+  pub rest : next j ≡ Some m
 
-after_some : (o : Option ℕ) (next : Numbering) (m : ℕ) → after o next ≡ Some m → After o next m
+pub after_some : (o : Option ℕ) (next : Numbering) (m : ℕ) → after o next ≡ Some m → After o next m
 after_some None next m e = absurd cc
 after_some (Some j) next m e = record { j = j; first = refl; rest = e }
 
-some_same : (k m : ℕ) → ◌≡◌ {A = Option ℕ} (Some k) (Some m) → k ≡ m
+pub some_same : (k m : ℕ) → ◌≡◌ {A = Option ℕ} (Some k) (Some m) → k ≡ m
 some_same k m e = cc
 
-label_next : (a b : Bool) (k m : ℕ) → (if a && b then Some (k + 1) else None) ≡ Some m → (b ≡ true) × (k + 1 ≡ m)
+pub label_next : (a b : Bool) (k m : ℕ) → (if a && b then Some (k + 1) else None) ≡ Some m → (b ≡ true) × (k + 1 ≡ m)
 label_next true true k m e = (refl, some_same (k + 1) m e)
 label_next true false k m e = absurd cc
 label_next false b k m e = absurd cc
@@ -131,7 +131,7 @@ module _ (arrays : List ArrayDecl) where
       leb-from : (n : ℕ) → n ≤ most_statements → nat_le n most_statements ≡ true
       leb-from n l = grind (arith, nat_tests)
 
-some_number : (o : Option ℕ) → IsTrue (is_some o) → (m : ℕ) × (o ≡ Some m)
+pub some_number : (o : Option ℕ) → IsTrue (is_some o) → (m : ℕ) × (o ≡ Some m)
 some_number None h = absurd cc
 some_number (Some m) h = (m, refl)
 

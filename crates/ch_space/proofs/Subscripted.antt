@@ -5,7 +5,7 @@ use Rattle.std.specs.List.{All, list_all}
 use Rattle.std.proofs.Math.Nat.{mul-le-mul_left, mul-le-mul_right}
 use Rattle.std.proofs.lemmas.Bool.{and_parts, eqb-true, leb-true}
 use Rattle.std.proofs.lemmas.Int.{ints, unsigned_abs-mul}
-use Rattle.std.proofs.lemmas.List.Elements.{All-head, All-tail, All-nil, All-cons}
+use Rattle.std.proofs.lemmas.List.Elements.{All-head, All-tail, All-nil, All-cons, All-weaker}
 use Rattle.std.proofs.lemmas.List.{length-append}
 use Rattle.std.proofs.lemmas.List.{drop_more, map-append, take_more}
 use Rattle.ch_affine.specs.Affine.{dot, IsAtMost}
@@ -28,7 +28,7 @@ use Rattle.ch_nest.specs.Shape.{access_fits, body_fits, coefs_fit, constant_fits
 use Rattle.ch_nest.specs.Sound.{access_inside}
 use Rattle.ch_space.specs.declared.accesses.Leaving.{Leaving}
 use Rattle.ch_space.specs.Judged.{access_count, bodies, bodies_of, bodies_step, first_leaving, text_accesses}
-use Rattle.ch_space.specs.Judging.{IsNear}
+use Rattle.ch_space.specs.JudgingWalk.{IsNear}
 use Rattle.ch_space.proofs.Bodies.{Fits, body_accesses}
 use Rattle.ch_timed.specs.Conflict.{cell_of, reads}
 use Rattle.ch_timed.specs.Members.{Each}
@@ -114,6 +114,12 @@ lies_near (r ∷ rs) (x ∷ xs) s h =
 
 pub near_at : (arrays : List ArrayDecl) (item : Item) (point : List ℤ) → length point ≤ deepest → IsAt arrays item point → IsNear point
 near_at arrays item point few a = record { few = few; small = lies_near a.boxes point a.small a.inside }
+
+pub near_small : (point : List ℤ) → IsNear point → All (IsAtMost (2 ^ 54)) point
+near_small point near = All-weaker (IsAtMost (2 ^ 30)) (IsAtMost (2 ^ 54)) weaker point near.small
+  where
+    weaker : (x : ℤ) → IsAtMost (2 ^ 30) x → IsAtMost (2 ^ 54) x
+    weaker x h = omega arith
 
 pub inner_shallow : (point inner : List ℤ) (x : ℤ) → length point < deepest → inner ≡ point ++ x ∷ [] → length inner ≤ deepest
 inner_shallow point inner x l e = rw e (simp length-append (omega arith))

@@ -1,5 +1,5 @@
--- Nests that can't be run: they take too many turns, or a subscript leaves its array.
-use Rattle.std.specs.Prelude.{ℕ, suc, ℤ, Bool, true, false, nat_lt, Option, Some, None, List, [], ◌∷◌, ◌++◌, length, map, take, if◌then◌else◌}
+-- The judgement of a nest: it can't be run where it takes too many turns, or a subscript leaves its array.
+use Rattle.std.specs.Prelude.{◌≡◌, ℕ, suc, ℤ, Bool, true, false, nat_lt, Option, Some, None, Result, Ok, Err, List, [], ◌∷◌, ◌++◌, length, map, take, if◌then◌else◌}
 use Rattle.std.specs.List.{sum}
 use Rattle.ch_nest.specs.declared.nest.Access.{Access}
 use Rattle.ch_nest.specs.declared.nest.ArrayDecl.{ArrayDecl}
@@ -12,7 +12,7 @@ use Rattle.ch_nest.specs.LoopNest.{LoopNest}
 use Rattle.ch_nest.specs.Sound.{access_inside, items_work}
 use Rattle.ch_space.specs.declared.accesses.Leaving.{Leaving}
 use Rattle.ch_space.specs.declared.error.SpaceError.{SpaceError}
-use Rattle.ch_space.specs.declared.error.SpaceError.TheVariants.{TooMany, OutOfRange}
+use Rattle.ch_space.specs.declared.error.SpaceError.TheVariants.{TooMany, OutOfRange, Memory}
 use Rattle.ch_timed.specs.Conflict.{cell_of, reads}
 use Rattle.ch_timed.specs.declared.element.Cell.{Cell}
 use Rattle.ch_timed.specs.declared.element.Element.{Element}
@@ -77,3 +77,13 @@ first_of f (e ∷ es) = or_else (f e) (first_of f es)
 -- The refusal of a nest: too many turns and instances; else the first instance in program order whose access leaves its array.
 abbrev pub judgement : LoopNest → Option SpaceError
 judgement nest = if nat_lt most_work (items_work nest.items []) then Some TooMany else first_of (leaving nest) (start nest)
+
+-- what a function gives that judges: the refusal, unless memory ran out
+abbrev pub IsRefusal : SpaceError → Option SpaceError → Type 0
+IsRefusal Memory refusal = Unit {0}
+IsRefusal TooMany refusal = refusal ≡ Some TooMany
+IsRefusal (OutOfRange first access cell) refusal = refusal ≡ Some (OutOfRange first access cell)
+
+abbrev pub Judges : {X : Type 0} → Result X SpaceError → Option SpaceError → Type 0
+Judges (Ok x) refusal = refusal ≡ None
+Judges (Err e) refusal = IsRefusal e refusal

@@ -32,21 +32,19 @@ most_pieces = 256
 abbrev pub most_levels : ℕ
 most_levels = 10
 
-abbrev pub most_iterators : ℕ
-most_iterators = 16
-
 abbrev pub most_commands : ℕ
 most_commands = 32
 
 abbrev pub most_weight : ℕ
 most_weight = 2 ^ 20
 
--- the most hidden values of a piece that so many commands made
-abbrev pub most_hidden : ℕ → ℕ
-most_hidden commands = 6 + 16 * commands
+-- The most variables of a piece's system after so many commands. A nest has at most 6 levels; a command adds at most one level and
+-- the values of the levels before it, or, for a move, those of the iterators and a level for each dimension of the array.
+abbrev pub most_variables : ℕ → ℕ
+most_variables commands = 6 + 16 * commands
 
--- The greatest magnitude of a level's value. The iterators of a nest have magnitude at most 2^30; a command moves a value by at most
--- 2^20, or multiplies it by no more than it multiplies the weight.
+-- The greatest magnitude of a level's value. The iterators of a nest have magnitude at most 2^30; a command moves a value by at
+-- most 2^20, or multiplies it by no more than it multiplies the weight.
 abbrev pub farthest : ℕ → ℕ → ℕ
 farthest weight commands = weight * (2 ^ 30 + commands * 2 ^ 20)
 
@@ -102,20 +100,21 @@ pub record IsBody (arrays temps iters : ℕ) (b : Body) : Type 0 where
   pub accesses : All (IsAccess arrays temps iters) (accesses b)
 
 -- both ends have at most that magnitude
-pub record IsNear (bound : ℕ) (b : Range) : Type 0 where
-  pub low : IsAtMost bound b.low
-  pub high : IsAtMost bound b.high
+pub record IsBounded (most : ℕ) (b : Range) : Type 0 where
+  pub low : IsAtMost most b.low
+  pub high : IsAtMost most b.high
 
--- a subscript with a modulus has a form whose value has magnitude at most 2^54
+-- How large a piece may be after so many commands that made this weight. The iterators of a statement are the levels of its nest,
+-- those of a move the levels that it was made with.
+pub record IsLimited (weight commands : ℕ) (p : Piece) : Type 0 where
+  pub levels : p.levels ≤ most_levels
+  pub iterators : length p.origin ≤ most_levels
+  pub variables : p.levels + p.hidden ≤ most_variables commands
+  pub boxes : All (IsBounded (farthest weight commands)) (take p.levels p.system.boxes)
+
+-- the form of a subscript with a modulus has a value of magnitude at most 2^54
 abbrev pub IsWrapped : List ℤ → Sub → Type 0
 IsWrapped iters s = (s.modulus ≢ 0) → IsAtMost (2 ^ 54) (value s.form iters)
-
--- How large a piece may be after so many commands with this weight.
-pub record IsSmall (weight commands : ℕ) (p : Piece) : Type 0 where
-  pub levels : p.levels ≤ most_levels
-  pub hidden : p.hidden ≤ most_hidden commands
-  pub origin : length p.origin ≤ most_iterators
-  pub boxes : All (IsNear (farthest weight commands)) (take p.levels p.system.boxes)
 
 abbrev pub IsMoveBelow : ℕ → Label → Type 0
 IsMoveBelow n (Stmt k) = Unit {0}
@@ -129,9 +128,9 @@ pub record IsSpace (arrays : ℕ) (pieces : List Piece) (counts : List ℕ) (tem
   pub few_arrays : arrays ≤ most_arrays
   pub few_pieces : length pieces ≤ most_pieces
   pub few_commands : commands ≤ most_commands
-  pub heavy : 1 ≤ weight
-  pub light : weight ≤ most_weight
-  pub small : All (IsSmall weight commands) pieces
+  pub some_weight : 1 ≤ weight
+  pub small_weight : weight ≤ most_weight
+  pub limited : All (IsLimited weight commands) pieces
   pub bodies : All (λ p. IsBody arrays (length temps) (length p.origin) p.body) pieces
   -- accesses of one array have equally many subscripts
   pub agree : (a b : Access) → In a (flat_map (λ p. accesses p.body) pieces) → In b (flat_map (λ p. accesses p.body) pieces) → a.array ≡ b.array → length a.subs ≡ length b.subs

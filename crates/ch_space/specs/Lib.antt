@@ -5,8 +5,8 @@ pub mod Statements
 pub mod Built
 pub mod Members
 pub mod Fitting
-pub mod Turned
+pub mod Negated
+pub mod Following
 pub mod Judged
-pub mod Judges
-pub mod Judging
+pub mod JudgingWalk
 pub mod Renumbered

@@ -4,7 +4,7 @@ ghost use Rattle.ch_affine.specs.Affine.{IsAtMost};
 ghost use Rattle.ch_nest.specs.Run.{sub_value};
 ghost use Rattle.ch_nest.specs.Shape.{access_fits, body_fits, sub_fits};
 ghost use Rattle.ch_space.specs.Judged.{access_count, accesses_before, bodies, bodies_of, first_leaving, text_accesses};
-ghost use Rattle.ch_space.specs.Judging.{IsNear};
+ghost use Rattle.ch_space.specs.JudgingWalk.{IsNear};
 ghost use Rattle.ch_timed.specs.Conflict.{cell_of, reads};
 ghost use Rattle.ch_timed.specs.declared.element.Label.TheVariants.{Stmt};
 
@@ -16,9 +16,9 @@ use std::alloc::{AllocError, Global};
 
 /// An access that leaves its array: its number among all accesses of the nest, in the order of the text, and the cell that it names.
 #[derive(Debug, Drop)]
-pub struct Leaving {
-    pub access: u32,
-    pub cell: Cell,
+pub(crate) struct Leaving {
+    pub(crate) access: u32,
+    pub(crate) cell: Cell,
 }
 
 /// Adds copies of the reads of a right side, from left to right.
@@ -111,9 +111,9 @@ pub(crate) fn accesses_before(alloc: Global, items: &[Item], label: u32) -> Resu
 }
 
 /// A subscript at a point.
+#[tactic(auto, using(crate::proofs::Subscripted::near_small))]
 fn subscript_at(sub: &Sub, point: &[i64]) -> i64
     requires fits { IsTrue (sub_fits (length point.now) sub.now) }
-    requires small { All (IsAtMost (2 ^ 54)) point.now }
     requires near { IsNear point.now }
     ensures { result ≡ sub_value point.now sub.now }
 {
@@ -124,7 +124,6 @@ fn subscript_at(sub: &Sub, point: &[i64]) -> i64
 #[tactic(auto, using(crate::proofs::Subscripted::values_go_on, crate::proofs::Subscripted::sub_at))]
 fn cell_at(alloc: Global, access: &Access, point: &[i64]) -> Result<Cell, AllocError>
     requires fit { IsTrue (list_all (sub_fits (length point.now)) access.now.subs) }
-    requires small { All (IsAtMost (2 ^ 54)) point.now }
     requires near { IsNear point.now }
     ensures { IfOk result (λ cell. cell ≡ cell_of point.now access.now) }
 {
@@ -148,7 +147,6 @@ pub(crate) fn first_leaving(
     before: u32,
 ) -> Result<Option<Leaving>, AllocError>
     requires fits { IsTrue (body_fits arrays.now (length point.now) body.now) }
-    requires small { All (IsAtMost (2 ^ 54)) point.now }
     requires near { IsNear point.now }
     requires few { before + access_count body.now < 2 ^ 32 }
     ensures { IfOk result (λ leaving. leaving ≡ first_leaving arrays.now point.now before (text_accesses body.now)) }
@@ -158,7 +156,7 @@ pub(crate) fn first_leaving(
 }
 
 /// The first of these accesses that leaves its array at a point, where the first one has number `number`.
-#[tactic(auto, using(crate::proofs::Subscripted::access_at, crate::proofs::Subscripted::subs_at, crate::proofs::Subscripted::leaving_goes_on, crate::proofs::Subscripted::leaving_here))]
+#[tactic(auto, using(crate::proofs::Subscripted::access_at, crate::proofs::Subscripted::near_small, crate::proofs::Subscripted::subs_at, crate::proofs::Subscripted::leaving_goes_on, crate::proofs::Subscripted::leaving_here))]
 fn leaving_from(
     alloc: Global,
     arrays: &[ArrayDecl],
@@ -167,7 +165,6 @@ fn leaving_from(
     number: u32,
 ) -> Result<Option<Leaving>, AllocError>
     requires fit { IsTrue (list_all (access_fits arrays.now (length point.now)) accesses.now) }
-    requires small { All (IsAtMost (2 ^ 54)) point.now }
     requires near { IsNear point.now }
     requires few { number + length accesses.now < 2 ^ 32 }
     ensures { IfOk result (λ leaving. leaving ≡ first_leaving arrays.now point.now number accesses.now) }

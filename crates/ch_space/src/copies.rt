@@ -8,13 +8,7 @@ use ch_affine::{Aff, Boxed, List, System};
 use ch_nest::{Access, Body, Expr, Sub};
 use std::alloc::{AllocError, Global};
 
-/// A form of its own with the same numbers.
-pub fn copied_form(alloc: Global, form: &Aff) -> Result<Aff, AllocError>
-    ensures { IfOk result (λ copy. copy ≡ form.now) }
-{
-    form.copied(alloc)
-}
-
+/// Forms of their own with the same numbers.
 pub fn copied_forms(alloc: Global, forms: &[Aff]) -> Result<List<Aff>, AllocError>
     ensures { IfOk result (λ copy. copy ≡ forms.now) }
 {
@@ -25,6 +19,7 @@ pub fn copied_forms(alloc: Global, forms: &[Aff]) -> Result<List<Aff>, AllocErro
     Ok(copy)
 }
 
+/// A system of its own with the same rows and ranges.
 pub fn copied_system(alloc: Global, system: &System) -> Result<System, AllocError>
     ensures { IfOk result (λ copy. copy ≡ system.now) }
 {
@@ -37,7 +32,7 @@ pub fn copied_system(alloc: Global, system: &System) -> Result<System, AllocErro
     })
 }
 
-pub fn copied_subscript(alloc: Global, subscript: &Sub) -> Result<Sub, AllocError>
+fn copied_subscript(alloc: Global, subscript: &Sub) -> Result<Sub, AllocError>
     ensures { IfOk result (λ copy. copy ≡ subscript.now) }
 {
     Ok(Sub {
@@ -46,6 +41,7 @@ pub fn copied_subscript(alloc: Global, subscript: &Sub) -> Result<Sub, AllocErro
     })
 }
 
+/// An access of its own, of the same array by the same subscripts.
 pub fn copied_access(alloc: Global, access: &Access) -> Result<Access, AllocError>
     ensures { IfOk result (λ copy. copy ≡ access.now) }
 {
@@ -89,6 +85,7 @@ pub fn copied_expr(alloc: Global, expr: &Expr) -> Result<Expr, AllocError>
     }
 }
 
+/// An assignment of its own that does the same.
 pub fn copied_body(alloc: Global, body: &Body) -> Result<Body, AllocError>
     ensures { IfOk result (λ copy. copy ≡ body.now) }
 {
@@ -98,7 +95,8 @@ pub fn copied_body(alloc: Global, body: &Body) -> Result<Body, AllocError>
     })
 }
 
-pub fn copied_piece(alloc: Global, piece: &Piece) -> Result<Piece, AllocError>
+/// A piece of its own with the same elements.
+pub(crate) fn copied_piece(alloc: Global, piece: &Piece) -> Result<Piece, AllocError>
     ensures { IfOk result (λ copy. copy ≡ piece.now) }
 {
     Ok(Piece {
@@ -112,7 +110,7 @@ pub fn copied_piece(alloc: Global, piece: &Piece) -> Result<Piece, AllocError>
     })
 }
 
-pub fn copied_pieces(alloc: Global, pieces: &[Piece]) -> Result<List<Piece>, AllocError>
+fn copied_pieces(alloc: Global, pieces: &[Piece]) -> Result<List<Piece>, AllocError>
     ensures { IfOk result (λ copy. copy ≡ pieces.now) }
 {
     let mut copy = List::with_capacity(alloc, pieces.len())?;

@@ -1,4 +1,4 @@
-//! The first and the last element of a piece, from the least points of its system and of the turned one.
+//! The first and the last element of a piece, from the least points of its system and of the negated one.
 
 ghost use Rattle.std.specs.Prelude.{◌≡◌, ◌≢◌, ◌<◌, ◌^◌, [], Some, length, map, IfOk};
 ghost use Rattle.std.specs.List.{All};
@@ -10,7 +10,7 @@ ghost use Rattle.ch_timed.specs.Timed.{pieces};
 ghost use Rattle.ch_space.specs.Keeps.{IsWhole};
 ghost use Rattle.ch_space.specs.Members.{identities, last, members};
 ghost use Rattle.ch_space.specs.Pieces.{element_at, elements, instances};
-ghost use Rattle.ch_space.specs.Turned.{negatives, turned, turned_form, turned_range};
+ghost use Rattle.ch_space.specs.Negated.{negatives, negated, negated_form, negated_range};
 
 use crate::piece::Piece;
 use crate::space::Space;
@@ -60,21 +60,21 @@ fn greatest_instance(alloc: Global, piece: &Piece) -> Result<List<i64>, AllocErr
     requires some { instances piece.now ≢ [] }
     ensures { IfOk result (λ xs. last (instances piece.now) ≡ Some xs) }
 {
-    let system = turned_system(alloc, &piece.system)?;
+    let system = negated_system(alloc, &piece.system)?;
     match least_point(alloc, &system)? {
         Some(point) => opposite(alloc, &point.as_slice()[..piece.levels as usize]),
         None => unreachable!(),
     }
 }
 
-fn turned_system(alloc: Global, system: &System) -> Result<System, AllocError>
-    ensures { IfOk result (λ other. other ≡ turned system.now) }
+fn negated_system(alloc: Global, system: &System) -> Result<System, AllocError>
+    ensures { IfOk result (λ other. other ≡ negated system.now) }
 {
     let mut rows = List::with_capacity(alloc, system.rows.len())?;
     for row in system.rows.as_slice() {
-        rows.push(turned_row(alloc, row)?)?;
+        rows.push(negated_row(alloc, row)?)?;
     }
-    let boxes = turned_ranges(alloc, system.boxes.as_slice())?;
+    let boxes = negated_ranges(alloc, system.boxes.as_slice())?;
     Ok(System {
         vars: system.vars,
         rows,
@@ -82,8 +82,8 @@ fn turned_system(alloc: Global, system: &System) -> Result<System, AllocError>
     })
 }
 
-fn turned_row(alloc: Global, row: &Aff) -> Result<Aff, AllocError>
-    ensures { IfOk result (λ other. other ≡ turned_form row.now) }
+fn negated_row(alloc: Global, row: &Aff) -> Result<Aff, AllocError>
+    ensures { IfOk result (λ other. other ≡ negated_form row.now) }
 {
     let coefs = opposite(alloc, row.coefs.as_slice())?;
     Ok(Aff {
@@ -92,9 +92,9 @@ fn turned_row(alloc: Global, row: &Aff) -> Result<Aff, AllocError>
     })
 }
 
-fn turned_ranges(alloc: Global, boxes: &[Range]) -> Result<List<Range>, AllocError>
+fn negated_ranges(alloc: Global, boxes: &[Range]) -> Result<List<Range>, AllocError>
     requires { All IsBox boxes.now }
-    ensures { IfOk result (λ others. others ≡ map turned_range boxes.now) }
+    ensures { IfOk result (λ others. others ≡ map negated_range boxes.now) }
 {
     let mut others = List::with_capacity(alloc, boxes.len())?;
     for range in boxes {
@@ -119,7 +119,7 @@ fn opposite(alloc: Global, numbers: &[i64]) -> Result<List<i64>, AllocError>
 }
 
 /// The identity of a piece's element at one of its instances.
-fn identity_at(alloc: Global, piece: &Piece, instance: &[i64]) -> Result<Identity, AllocError>
+pub(crate) fn identity_at(alloc: Global, piece: &Piece, instance: &[i64]) -> Result<Identity, AllocError>
     requires whole { IsWhole piece.now }
     requires one { In instance.now (instances piece.now) }
     requires near { All (λ e. All (IsAtMost (2 ^ 54)) e.identity.iters) (elements piece.now) }
@@ -137,7 +137,7 @@ fn identity_at(alloc: Global, piece: &Piece, instance: &[i64]) -> Result<Identit
 }
 
 /// Tells a caller what each system keeps by its type. It does nothing.
-fn known(system: &System)
+pub(crate) fn known(system: &System)
     ensures { IsSystem system.now }
 {
     let _ = system.boxes.len();

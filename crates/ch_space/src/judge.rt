@@ -7,8 +7,8 @@ ghost use Rattle.ch_nest.specs.LoopNest.{LoopNest};
 ghost use Rattle.ch_nest.specs.Shape.{body_fits};
 ghost use Rattle.ch_nest.specs.Sound.{is_sound, item_work, items_work};
 ghost use Rattle.ch_space.specs.Judged.{judgement, leaving};
-ghost use Rattle.ch_space.specs.Judges.{Judges};
-ghost use Rattle.ch_space.specs.Judging.{item_refusal, items_refusal, IsNear, Walks};
+ghost use Rattle.ch_space.specs.Judged.{Judges};
+ghost use Rattle.ch_space.specs.JudgingWalk.{item_refusal, items_refusal, IsNear, Walks};
 ghost use Rattle.ch_timed.specs.declared.element.Label.TheVariants.{Stmt};
 
 use crate::accesses::{accesses_before, first_leaving};
@@ -32,7 +32,7 @@ pub(crate) struct Walk {
 }
 
 /// The refusal of a statement at a point, where one of its accesses leaves its array. Memory is taken only there.
-#[tactic(auto, using(crate::proofs::Judgings::inside_is_free))]
+#[tactic(auto, using(crate::proofs::Judgings::inside_is_free, crate::proofs::Subscripted::near_small))]
 fn instance_refusal(
     alloc: Global,
     nest: &Nest,
@@ -41,7 +41,6 @@ fn instance_refusal(
     point: &[i64],
 ) -> Result<Option<SpaceError>, AllocError>
     requires fits { IsTrue (body_fits nest.now.arrays (length point.now) body.now) }
-    requires small { All (IsAtMost (2 ^ 54)) point.now }
     requires near { IsNear point.now }
     ensures { IfOk result (λ refusal. refusal ≡ leaving nest.now (record { identity = record { label = Stmt label; iters = point.now }; vector = []; body = body.now })) }
 {
@@ -78,7 +77,6 @@ fn walk_instance(
     walk: Walk,
 ) -> Result<Walk, SpaceError>
     requires fits { IsTrue (body_fits nest.now.arrays (length point.now) body.now) }
-    requires small { All (IsAtMost (2 ^ 54)) point.now }
     requires near { IsNear point.now }
     ensures { Walks result 1 (leaving nest.now (record { identity = record { label = Stmt label; iters = point.now }; vector = []; body = body.now })) walk }
 {

@@ -89,57 +89,47 @@ fn outcome_of(judgement: Result<(), SpaceError>) -> Outcome {
     }
 }
 
+/// What is judged of such a nest.
+fn judge(
+    alloc: Global,
+    high: i64,
+    first: [Place; 3],
+    second: [Place; 3],
+) -> Result<Outcome, Fail> {
+    let nest = nest(alloc, high, first, second)?;
+    Ok(outcome_of(judged(alloc, &nest)))
+}
+
+/// Accesses that stay inside.
+const FINE: [Place; 3] = [(0, 0, 0), (1, 0, 9), (0, 0, 9)];
+
 #[test]
 fn the_first_access_that_leaves(rt: HostRuntime) -> Result<(), Fail> {
     let alloc = rt.alloc();
-    let fine = [(0, 0, 0), (1, 0, 9), (0, 0, 9)];
-    let cases = [
-        (9, fine, [(1, 1, 0), (0, 1, 0), (0, -1, 9)], Outcome::Sound),
-        // In the sixth turn.
-        (
-            9,
-            [(0, 2, 1), (1, 0, 0), (0, 0, 1)],
-            fine,
-            Outcome::Leaves(0, 5, 0, 0, 11),
-        ),
-        // Its accesses are numbered after the three of the first statement; both reads leave.
-        (
-            3,
-            fine,
-            [(1, 1, 0), (0, 1, 8), (1, -1, 1)],
-            Outcome::Leaves(1, 2, 4, 0, 10),
-        ),
-        (
-            3,
-            fine,
-            [(1, 1, 0), (0, 1, 6), (1, -1, 1)],
-            Outcome::Leaves(1, 2, 5, 1, -1),
-        ),
-        // The write counts before the reads.
-        (
-            0,
-            [(1, 0, 10), (0, 0, 12), (0, 0, 0)],
-            fine,
-            Outcome::Leaves(0, 0, 0, 1, 10),
-        ),
-        // Three turns and instances each time round: 1,048,575 and 1,048,578.
-        (
-            349524,
-            fine,
-            [(0, 1, -349523), (0, 0, 0), (0, 0, 0)],
-            Outcome::Leaves(1, 0, 3, 0, -349523),
-        ),
-        (
-            349525,
-            fine,
-            [(0, 1, -349523), (0, 0, 0), (0, 0, 0)],
-            Outcome::TooMany,
-        ),
-    ];
-    for (high, first, second, wanted) in cases {
-        let nest = nest(alloc, high, first, second)?;
-        assert_eq!(rt; outcome_of(judged(alloc, &nest)), wanted, "up to {high}");
-    }
+    let sound = judge(alloc, 9, FINE, [(1, 1, 0), (0, 1, 0), (0, -1, 9)])?;
+    assert_eq!(rt; sound, Outcome::Sound);
+    let in_the_sixth_turn = judge(alloc, 9, [(0, 2, 1), (1, 0, 0), (0, 0, 1)], FINE)?;
+    assert_eq!(rt; in_the_sixth_turn, Outcome::Leaves(0, 5, 0, 0, 11));
+    // Its accesses are numbered after the three of the first statement; both reads leave.
+    let both_reads = judge(alloc, 3, FINE, [(1, 1, 0), (0, 1, 8), (1, -1, 1)])?;
+    assert_eq!(rt; both_reads, Outcome::Leaves(1, 2, 4, 0, 10));
+    let second_read = judge(alloc, 3, FINE, [(1, 1, 0), (0, 1, 6), (1, -1, 1)])?;
+    assert_eq!(rt; second_read, Outcome::Leaves(1, 2, 5, 1, -1));
+    // The write counts before the reads.
+    let write = judge(alloc, 0, [(1, 0, 10), (0, 0, 12), (0, 0, 0)], FINE)?;
+    assert_eq!(rt; write, Outcome::Leaves(0, 0, 0, 1, 10));
     judgement_is_sound();
+    Ok(())
+}
+
+/// Three turns and instances each time round: 1,048,575 and 1,048,578.
+#[test]
+fn turns_count_before_accesses(rt: HostRuntime) -> Result<(), Fail> {
+    let alloc = rt.alloc();
+    let leaves = [(0, 1, -349523), (0, 0, 0), (0, 0, 0)];
+    let most = judge(alloc, 349524, FINE, leaves)?;
+    assert_eq!(rt; most, Outcome::Leaves(1, 0, 3, 0, -349523));
+    let too_many = judge(alloc, 349525, FINE, leaves)?;
+    assert_eq!(rt; too_many, Outcome::TooMany);
     Ok(())
 }

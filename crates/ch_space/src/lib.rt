@@ -2,6 +2,9 @@
 #![tactic(auto)]
 
 mod accesses;
+mod after;
+#[cfg(test)]
+mod after_tests;
 mod closing;
 pub mod copies;
 mod error;
@@ -22,12 +25,11 @@ mod rows;
 mod space;
 mod turns;
 
-pub use accesses::Leaving;
 pub use closing::close_up;
 pub use error::SpaceError;
 pub use extremes::ends;
 pub use judge::{judged, judgement_is_sound};
-pub use nest_space::{of_nest, sound_space};
+pub use nest_space::{of_nest, space_of};
 pub use piece::Piece;
 pub use reading::{count, group, label, piece_count, pieces, places};
 pub use space::Space;

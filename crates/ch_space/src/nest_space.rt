@@ -1,6 +1,6 @@
 ghost use Rattle.std.specs.Prelude.{◌≡◌, ◌≤◌, [], length, IfOk};
 ghost use Rattle.ch_space.specs.Judged.{judgement};
-ghost use Rattle.ch_space.specs.Judges.{Judges};
+ghost use Rattle.ch_space.specs.Judged.{Judges};
 ghost use Rattle.ch_nest.specs.Limits.{most_work};
 ghost use Rattle.ch_nest.specs.Sound.{items_work};
 ghost use Rattle.ch_timed.specs.Start.{start};
@@ -14,7 +14,7 @@ use ch_nest::Nest;
 use std::alloc::{AllocError, Global};
 
 /// The space of a nest that does not take too many turns.
-pub fn sound_space(alloc: Global, nest: &Nest) -> Result<Space, AllocError>
+pub fn space_of(alloc: Global, nest: &Nest) -> Result<Space, AllocError>
     requires few { items_work nest.now.items [] ≤ most_work }
     ensures { IfOk result (λ space. space ≡ record { list = start nest.now; arrays = length nest.now.arrays; temps = []; weight = 1; commands = 0 }) }
 {
@@ -48,6 +48,6 @@ pub fn of_nest(alloc: Global, nest: &Nest) -> Result<Space, SpaceError>
     ensures commands { IfOk result (λ space. space.commands ≡ 0) }
 {
     judged(alloc, nest)?;
-    let space = sound_space(alloc, nest)?;
+    let space = space_of(alloc, nest)?;
     Ok(space)
 }

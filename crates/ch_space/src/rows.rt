@@ -125,12 +125,14 @@ pub(crate) fn boxes_of(alloc: Global, levels: &[Level]) -> Result<List<Range>, A
 {
     let mut boxes = List::with_capacity(alloc, levels.len())?;
     for level in levels {
-        if let Some(inner) = small_box(
+        match small_box(
             boxes.as_slice(),
             level.lows.as_slice(),
             level.highs.as_slice(),
         ) {
-            boxes.push(inner)?;
+            Some(inner) => boxes.push(inner)?,
+            // The boxes of a well formed nest are small.
+            None => unreachable!(),
         }
     }
     Ok(boxes)

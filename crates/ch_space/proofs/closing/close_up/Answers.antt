@@ -23,8 +23,8 @@ pub invariant_of-space : goal.invariant_of-space
 invariant_of-space c =
     let ranks = subst (λ z. AreRanks (map places_of z) z c.in_ok-closed.closed) c.as_slice.ensures c.in_ok-closed.ensures in
     let after = pieces_after c.space.inside.pieces c.as_mut_slice.result.now c.place_all.new.pieces c.in_ok-closed.closed c.as_mut_slice.ensures.value c.place_all.ensures in
-    subst (λ z. IsSpace c.space.inside.arrays z c.space.inside.counts c.space.inside.temps c.space.inside.commands) (sym after)
-    (space_closed c.space.inside.arrays c.space.inside.commands c.space.inside.pieces c.space.inside.counts c.space.inside.temps c.in_ok-closed.closed ranks c.space.invariant)
+    subst (λ z. IsSpace c.space.inside.arrays z c.space.inside.counts c.space.inside.temps c.space.inside.weight c.space.inside.commands) (sym after)
+    (space_closed c.space.inside.arrays c.space.inside.weight c.space.inside.commands c.space.inside.pieces c.space.inside.counts c.space.inside.temps c.in_ok-closed.closed ranks c.space.invariant)
 
 pub returns-clause-list : goal.returns-clause-list
 returns-clause-list c =

@@ -11,9 +11,6 @@ use Rattle.ch_space.proofs.judge.+judging.Goals as goal
 pub walk_item-walk_instance-requires-clause-fits : goal.walk_item-walk_instance-requires-clause-fits
 walk_item-walk_instance-requires-clause-fits t c = body_at c.args.nest.now.arrays c.args.item.now c.args.point.now c.in-Assign.label c.in-Assign.body c.in-Assign.is c.requires.at
 
-pub walk_item-walk_instance-requires-clause-small : goal.walk_item-walk_instance-requires-clause-small
-walk_item-walk_instance-requires-clause-small t c = point_small c.args.nest.now.arrays c.args.item.now c.args.point.now c.requires.at
-
 pub walk_item-walk_instance-requires-clause-near : goal.walk_item-walk_instance-requires-clause-near
 walk_item-walk_instance-requires-clause-near t c = near_at c.args.nest.now.arrays c.args.item.now c.args.point.now c.requires.shallow c.requires.at
 

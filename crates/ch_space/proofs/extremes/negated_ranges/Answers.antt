@@ -3,7 +3,7 @@ use Rattle.std.proofs.lemmas.Int.{ints}
 use Rattle.ch_affine.specs.Rows.{IsBox}
 use Rattle.ch_affine.specs.declared.system.Range.{Range}
 use Rattle.ch_space.proofs.Turning.{ranges_more}
-use Rattle.ch_space.proofs.extremes.turned_ranges.Goals as goal
+use Rattle.ch_space.proofs.extremes.negated_ranges.Goals as goal
 
 abbrev nothing : Range
 nothing = record { low = pos 0; high = pos 0 }

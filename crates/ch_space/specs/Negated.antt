@@ -8,11 +8,11 @@ abbrev pub negatives : List ℤ → List ℤ
 negatives xs = map neg_ℤ xs
 
 -- its value at the negatives is that of the form
-abbrev pub turned_form : Form → Form
-turned_form f = record { coefs = negatives f.coefs; constant = f.constant }
+abbrev pub negated_form : Form → Form
+negated_form f = record { coefs = negatives f.coefs; constant = f.constant }
 
-abbrev pub turned_range : Range → Range
-turned_range b = record { low = neg_ℤ b.high; high = neg_ℤ b.low }
+abbrev pub negated_range : Range → Range
+negated_range b = record { low = neg_ℤ b.high; high = neg_ℤ b.low }
 
-abbrev pub turned : Rows → Rows
-turned s = record { vars = s.vars; rows = map turned_form s.rows; boxes = map turned_range s.boxes }
+abbrev pub negated : Rows → Rows
+negated s = record { vars = s.vars; rows = map negated_form s.rows; boxes = map negated_range s.boxes }

@@ -1,7 +1,7 @@
 use Rattle.std.proofs.Common.{arith}
 use Rattle.std.proofs.lemmas.Int.{ints}
 use Rattle.ch_space.proofs.Turning.{turned_small}
-use Rattle.ch_space.proofs.extremes.turned_row.Goals as goal
+use Rattle.ch_space.proofs.extremes.negated_row.Goals as goal
 
 pub invariant_of-result : goal.invariant_of-result
 invariant_of-result c =

@@ -1,7 +1,7 @@
 use Rattle.std.proofs.Common.{ap, length, arith}
 use Rattle.ch_affine.specs.Rows.{system}
 use Rattle.ch_space.proofs.Turning.{system_turned}
-use Rattle.ch_space.proofs.extremes.turned_system.Goals as goal
+use Rattle.ch_space.proofs.extremes.negated_system.Goals as goal
 
 pub invariant_of-result : goal.invariant_of-result
 invariant_of-result c =

@@ -3,7 +3,7 @@ use Rattle.std.specs.Bool.{IsTrue}
 use Rattle.ch_nest.specs.LoopNest.{LoopNest}
 use Rattle.ch_nest.specs.Shape.{is_nest}
 use Rattle.ch_space.proofs.FindSteps.{all_found, arrays_counted, space_is, space_kept, top_below}
-use Rattle.ch_space.proofs.nest_space.sound_space.Goals as goal
+use Rattle.ch_space.proofs.nest_space.space_of.Goals as goal
 
 pub find_items-requires : goal.find_items-requires
 find_items-requires c =

@@ -1,0 +1,108 @@
+//! The elements of a loop with two statements, one after another.
+
+use crate::{Space, count, of_nest};
+use ch_affine::{Aff, List, Text};
+use ch_nest::{Access, ArrayDecl, Body, Expr, Item, Nest, Sub};
+use ch_timed::{Element, Label, Timed};
+use std::alloc::{AllocError, Global};
+use std::test::Fail;
+
+fn one<T: Drop>(alloc: Global, item: T) -> Result<List<T>, AllocError> {
+    let mut list = List::new(alloc);
+    list.push(item)?;
+    Ok(list)
+}
+
+fn form(alloc: Global, coefs: &[i64], constant: i64) -> Result<Aff, Fail> {
+    let coefs = List::from_slice(alloc, coefs)?;
+    let form = Aff::new(coefs, constant).ok_or("a small form")?;
+    Ok(form)
+}
+
+/// `array[i + shift]`
+fn access(alloc: Global, array: u32, shift: i64) -> Result<Access, Fail> {
+    let form = form(alloc, &[1], shift)?;
+    let subs = one(alloc, Sub { form, modulus: 0 })?;
+    Ok(Access { array, subs })
+}
+
+fn assign(alloc: Global, label: u32, write: Access, read: Access) -> Result<Item, AllocError> {
+    let right = Expr::Read(read);
+    Ok(Item::Assign {
+        label,
+        body: Body { write, right },
+    })
+}
+
+fn four_cells(alloc: Global) -> Result<ArrayDecl, AllocError> {
+    let extents = List::from_slice(alloc, &[4])?;
+    let name = Text::new(alloc);
+    Ok(ArrayDecl { name, extents })
+}
+
+/// A loop over i from 1 to 3 with `A[i] = B[i - 1]` and `B[i] = A[i]`.
+fn pipeline(alloc: Global) -> Result<Nest, Fail> {
+    let first = assign(alloc, 0, access(alloc, 0, 0)?, access(alloc, 1, -1)?)?;
+    let second = assign(alloc, 1, access(alloc, 1, 0)?, access(alloc, 0, 0)?)?;
+    let mut items = one(alloc, first)?;
+    items.push(second)?;
+    let lows = one(alloc, form(alloc, &[], 1)?)?;
+    let highs = one(alloc, form(alloc, &[], 3)?)?;
+    let top = Item::Loop { lows, highs, items };
+    let mut arrays = one(alloc, four_cells(alloc)?)?;
+    arrays.push(four_cells(alloc)?)?;
+    let nest = Nest::new(arrays, one(alloc, top)?).ok_or("a nest")?;
+    Ok(nest)
+}
+
+/// The label of an element with one iterator, and that.
+fn named(element: &Element) -> Option<(Label, i64)> {
+    match element.identity.iters.as_slice() {
+        [i] => Some((element.identity.label, *i)),
+        _ => None,
+    }
+}
+
+fn named_after(
+    alloc: Global,
+    space: &Space,
+    vector: &[i64],
+) -> Result<Option<(Label, i64)>, AllocError> {
+    match space.after(alloc, vector)? {
+        None => Ok(None),
+        Some(element) => Ok(named(&element)),
+    }
+}
+
+#[test]
+fn all_elements_in_order(rt: HostRuntime) -> Result<(), Fail> {
+    let alloc = rt.alloc();
+    let space = of_nest(alloc, &pipeline(alloc)?)?;
+    let mut vector = List::new(alloc);
+    for turn in 0..count(&space) {
+        let element = space.after(alloc, vector.as_slice())?.ok_or("an element")?;
+        let label = Label::Stmt((turn % 2) as u32);
+        assert_eq!(rt; named(&element), Some((label, (turn / 2) as i64 + 1)));
+        vector = element.vector;
+    }
+    assert!(rt; space.after(alloc, vector.as_slice())?.is_none());
+    Ok(())
+}
+
+#[test]
+fn vectors_of_any_length(rt: HostRuntime) -> Result<(), Fail> {
+    let alloc = rt.alloc();
+    let space = of_nest(alloc, &pipeline(alloc)?)?;
+    let first = Label::Stmt(0);
+    let second = Label::Stmt(1);
+    assert_eq!(rt; named_after(alloc, &space, &[])?, Some((first, 1)));
+    assert_eq!(rt; named_after(alloc, &space, &[-1, 9])?, Some((first, 1)));
+    assert_eq!(rt; named_after(alloc, &space, &[0, 2])?, Some((first, 2)));
+    assert_eq!(rt; named_after(alloc, &space, &[0, 2, 0])?, Some((second, 2)));
+    assert_eq!(rt; named_after(alloc, &space, &[0, 2, 0, 5])?, Some((second, 2)));
+    assert_eq!(rt; named_after(alloc, &space, &[0, 2, 1])?, Some((first, 3)));
+    assert_eq!(rt; named_after(alloc, &space, &[0, 3, 1])?, None);
+    assert_eq!(rt; named_after(alloc, &space, &[0, i64::MAX])?, None);
+    assert_eq!(rt; named_after(alloc, &space, &[1])?, None);
+    Ok(())
+}
