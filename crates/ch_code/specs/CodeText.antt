@@ -14,7 +14,7 @@ use Rattle.ch_code.specs.LoopText.{for_text, if_text}
 use Rattle.ch_code.specs.declared.code.Code.{Code}
 use Rattle.ch_code.specs.declared.code.Code.TheOpen.{Code-F}
 use Rattle.ch_code.specs.declared.code.Code.TheFolds.{fold-Code}
-use Rattle.ch_code.specs.declared.code.Unit as unit
+use Rattle.ch_code.specs.UnitParts.{UnitParts}
 
 -- an original iterator as a form of the values of the loops around
 unfoldable pub origin_text : ℕ → ℕ → Form → List ℕ
@@ -104,5 +104,5 @@ abbrev pub buffer_lines : ℕ → List (List ℕ) → List ℕ
 buffer_lines k [] = []
 buffer_lines k (t ∷ ts) = buffer_line k t ++ buffer_lines (suc k) ts
 
-unfoldable pub unit_text : unit.Unit → List ℕ
+unfoldable pub unit_text : UnitParts → List ℕ
 unit_text u = flat_map array_line u.arrays ++ buffer_lines 0 u.temps ++ code_text u.arrays u.root false 0 0

@@ -1,7 +1,7 @@
 ghost use Rattle.std.specs.Prelude.{◌≡◌, ◌<◌, ◌++◌, suc, false, length, map, OnOk, IfOk, IsTrue};
 ghost use Rattle.std.specs.List.{flat_map};
 ghost use Rattle.ch_code.specs.CodeText.{array_line, brace_lead, buffer_line, buffer_lines, code_text, escaped, extent_text, instance_text, lead, leaf_text, level_of, margin, more_origins_text, name_text, origin_text, origins_text, parts_text, place_text, quoted, unit_text};
-ghost use Rattle.ch_code.specs.declared.code.Unit as unit;
+ghost use Rattle.ch_code.specs.UnitParts.{UnitParts, unit_of};
 
 use crate::bodies::{is_plain, put_body};
 use crate::code::{Code, Unit};
@@ -278,19 +278,36 @@ fn put_buffer_lines(out: &mut Text, temps: &[List<u32>]) -> Result<(), AllocErro
     Ok(())
 }
 
-/// The text of a unit for people.
+/// The text of the unit of these parts.
 #[tactic(auto, unfolding(crate::specs::CodeText::unit_text))]
+pub(crate) fn text_of(
+    alloc: Global,
+    root: &Code,
+    arrays: &[ArrayDecl],
+    temps: &[List<u32>],
+) -> Result<Text, AllocError>
+    ensures { IfOk result (λ text. text ≡ unit_text (unit_of root.now arrays.now temps.now)) }
+{
+    let mut out = Text::new(alloc);
+    put_array_lines(&mut out, arrays)?;
+    put_buffer_lines(&mut out, temps)?;
+    put_code(&mut out, arrays, root, false, 0, 0)?;
+    Ok(out)
+}
+
+/// The text of a unit for people.
 pub fn code_text(alloc: Global, unit: &Unit) -> Result<Text, AllocError>
     ensures { IfOk result (λ text. text ≡ unit_text unit.now) }
 {
-    let mut out = Text::new(alloc);
-    put_array_lines(&mut out, unit.arrays.as_slice())?;
-    put_buffer_lines(&mut out, unit.temps.as_slice())?;
-    put_code(&mut out, unit.arrays.as_slice(), &unit.root, false, 0, 0)?;
-    Ok(out)
+    text_of(
+        alloc,
+        &unit.root,
+        unit.arrays.as_slice(),
+        unit.temps.as_slice(),
+    )
 }
 
 /// States that units of one text are one, whatever is in them. It does nothing.
 pub fn texts_differ()
-    ensures { (u v : unit.Unit) → unit_text u ≡ unit_text v → u ≡ v }
+    ensures { (u v : UnitParts) → unit_text u ≡ unit_text v → u ≡ v }
 {}

@@ -102,13 +102,13 @@ turns_ascend (suc n) low g a b =
     (each_in (λ e. Each (IsEarlier e) (g (low +ℤ pos n))) (turns_listed n low g)
     (λ e i. each_in (IsEarlier e) (g (low +ℤ pos n)) (λ d k. let r = in_turns n low g e i in b r.0 n e d r.1.0 (omega arith) r.1.1 k)))
 
-ranges_more : (R : List Range) (r : Range) (xs : List ℤ) (x : ℤ) → InRanges R xs → r.low ≤ℤ x → x ≤ℤ r.high → InRanges (R ++ r ∷ []) (xs ++ x ∷ [])
+pub ranges_more : (R : List Range) (r : Range) (xs : List ℤ) (x : ℤ) → InRanges R xs → r.low ≤ℤ x → x ≤ℤ r.high → InRanges (R ++ r ∷ []) (xs ++ x ∷ [])
 ranges_more [] r [] x h l u = (l, u, tt)
 ranges_more [] r (y ∷ xs) x h l u = absurd h
 ranges_more (b ∷ R) r [] x h l u = absurd h
 ranges_more (b ∷ R) r (y ∷ xs) x h l u = (h.0, h.1, ranges_more R r xs x h.2 l u)
 
-counted : (low high : ℤ) (j : ℕ) → j < count low high → (low +ℤ pos j) ≤ℤ high
+pub counted : (low high : ℤ) (j : ℕ) → j < count low high → (low +ℤ pos j) ≤ℤ high
 counted low high j h = grind (arith, ints)
 
 counts : (low high : ℤ) (j : ℕ) → (low +ℤ pos j) ≤ℤ high → j < count low high

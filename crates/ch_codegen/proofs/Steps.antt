@@ -10,13 +10,13 @@ use Rattle.ch_space.specs.declared.piece.Piece.{Piece}
 use Rattle.ch_space.specs.Keeps.{IsWhole, AreApart}
 use Rattle.ch_timed.specs.Members.{Each, In}
 use Rattle.ch_timed.proofs.Orders.{at_each, each_more}
-use Rattle.ch_codegen.specs.Made.{leaf, guard, loop}
+use Rattle.ch_codegen.specs.Made.{leaf, guard, loop, sequence}
 use Rattle.ch_codegen.specs.LeastValues.{HoldEverywhere}
 use Rattle.ch_codegen.specs.Parts.{Lists, Together, AreSystems, place, range_at, IsRun, StopsAt, Precedes, AllPrecede, Widens, Covers}
 use Rattle.ch_codegen.proofs.Inside.{in_append, append_left, append_right, has_numbers}
 use Rattle.ch_codegen.proofs.Executed.{IsFit, each_in, lists_same, lists_both, lists_loop, lists_guarded, lists_bare}
 use Rattle.ch_codegen.proofs.Neighbours.{whole_in, are_fit, apart_front, apart_back, systems_front, systems_back, together_back, run_of_one, run_of_many, run_ends, run_goes_on}
-use Rattle.ch_codegen.proofs.Traces.{trace_leaf, trace_guarded, trace_looped, parts_more}
+use Rattle.ch_codegen.proofs.Traces.{trace_leaf, trace_guarded, trace_looped, trace_sequence, parts_more}
 
 read_in : {X : Type 0} (xs : List X) (k : ℕ) (x : X) → k < length xs → x ≡ get_or xs k x → In x xs
 read_in [] k x l e = absurd (omega arith)
@@ -144,10 +144,10 @@ precede_more d ps start count before run p q i j =
       | inr m ↦ run p q m k
     ]
 
-pub code_whole : (R : List Range) (ps : List Piece) (parts : List Code) (code : Code) (start : ℕ) → length ps ≤ start → ((xs : List ℤ) → trace code xs ≡ one_by_one (map trace parts) xs)
+pub code_whole : (R : List Range) (ps : List Piece) (parts : List Code) (code : Code) (start : ℕ) → length ps ≤ start → code ≡ sequence parts
     → Lists R (take start ps) (one_by_one (map trace parts)) → Lists R ps (trace code)
-code_whole R ps parts code start l same lists =
-    lists_same R ps _ _ (λ xs h. sym (same xs)) (subst (λ z. Lists R z (one_by_one (map trace parts))) (take_all start ps l) lists)
+code_whole R ps parts code start l is lists =
+    lists_same R ps _ _ (λ xs h. sym (trace_sequence parts xs) ∙ ap (λ c. trace c xs) (sym is)) (subst (λ z. Lists R z (one_by_one (map trace parts))) (take_all start ps l) lists)
 
 pub run_is_one : (ps : List Piece) (d : ℕ) (p : Piece) → 0 < length ps → p ≡ get_or ps 0 p → IsRun d ps → p.levels ≡ d → ps ≡ p ∷ []
 run_is_one [] d p l e r s = absurd (omega arith)

@@ -3,6 +3,7 @@
 ghost use Rattle.std.specs.Prelude.{◌≡◌, ◌<◌, length, IfOk};
 ghost use Rattle.ch_code.specs.Trace.{trace, unit_trace};
 ghost use Rattle.ch_space.specs.Keeps.{AreApart};
+ghost use Rattle.ch_codegen.specs.Formed.{IsFormed};
 ghost use Rattle.ch_codegen.specs.Parts.{AreSystems, IsRun, Lists, Together};
 
 use crate::runs::{extended, run_end, shared_range};
@@ -22,7 +23,8 @@ fn code_of(alloc: Global, pieces: &[Piece], ranges: &[Range]) -> Result<Code, Al
     requires apart { AreApart pieces.now }
     requires systems { AreSystems pieces.now }
     requires together { Together (length ranges.now) pieces.now }
-    ensures { IfOk result (λ code. Lists ranges.now pieces.now (trace code)) }
+    ensures lists { IfOk result (λ code. Lists ranges.now pieces.now (trace code)) }
+    ensures formed { IfOk result (λ code. IsFormed ranges.now pieces.now code) }
 {
     let mut parts = List::new(alloc);
     let mut start = 0;
@@ -43,7 +45,8 @@ fn run_code(alloc: Global, run: &[Piece], ranges: &[Range]) -> Result<Code, Allo
     requires apart { AreApart run.now }
     requires systems { AreSystems run.now }
     requires run { IsRun (length ranges.now) run.now }
-    ensures { IfOk result (λ code. Lists ranges.now run.now (trace code)) }
+    ensures lists { IfOk result (λ code. Lists ranges.now run.now (trace code)) }
+    ensures formed { IfOk result (λ code. IsFormed ranges.now run.now code) }
 {
     let first = &run[0];
     let depth = ranges.len();
