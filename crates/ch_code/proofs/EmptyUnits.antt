@@ -1,7 +1,7 @@
 -- The unit of the tests is one.
 use Rattle.std.proofs.Common.{◌≡◌, sym, ap, ◌∙◌, subst, ◌^◌, ℤ, true, List, []}
 use Rattle.std.specs.List.{All}
-use Rattle.std.proofs.lemmas.List.{All-nil}
+use Rattle.std.proofs.lemmas.List.Elements.{All-nil}
 use Rattle.ch_affine.specs.Affine.{IsAtMost}
 use Rattle.ch_affine.specs.Rows.{Rows, IsSystem}
 use Rattle.ch_timed.specs.declared.element.Element.{Element}

@@ -67,9 +67,12 @@ abbrev pub parts_text : List Printed → ℕ → ℕ → List ℕ
 parts_text [] level around = []
 parts_text (p ∷ ps) level around = p false level around ++ parts_text ps level around
 
+-- parts between braces, of which the second begins a line at the level
+abbrev pub braced_text : List Printed → ℕ → ℕ → List ℕ
+braced_text parts level around = codes "{\n" ++ parts_text parts (suc level) around ++ margin level ++ codes "}\n"
+
 abbrev pub code_layer : List ArrayDecl → Code-F Printed → Printed
-code_layer arrays (Code-F.Seq parts) behind level around =
-    brace_lead behind level ++ codes "{\n" ++ parts_text parts (suc level) around ++ margin level ++ codes "}\n"
+code_layer arrays (Code-F.Seq parts) behind level around = brace_lead behind level ++ braced_text parts level around
 code_layer arrays (Code-F.Loop number lows highs inner) behind level around =
     lead behind level ++ for_text around number lows highs ++ inner true (level_of behind level) (suc around)
 code_layer arrays (Code-F.Guard system inner) behind level around =

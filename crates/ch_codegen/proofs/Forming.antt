@@ -3,7 +3,7 @@ use Rattle.std.proofs.Common.{◌≡◌, refl, sym, ap, ap₂, ◌∙◌, subst,
 use Rattle.std.specs.List.{All, list_all, flat_map}
 use Rattle.std.proofs.lemmas.Bool.{and_from, and_parts}
 use Rattle.std.proofs.lemmas.Int.{ints}
-use Rattle.std.proofs.lemmas.List.{list_all-from_AllPass, recursion_from_All}
+use Rattle.std.proofs.lemmas.List.Sums.{list_all-from_AllPass}
 use Rattle.ch_affine.specs.declared.system.Range.{Range}
 use Rattle.ch_affine.specs.Affine.{IsAtMost}
 use Rattle.ch_affine.specs.Form.{Form}
@@ -210,8 +210,10 @@ pub run_formed : (R : List Range) (ps : List Piece) (start count : ℕ) (parts a
     → all ≡ parts ++ part ∷ [] → Each (IsFormed R ps) all
 run_formed R ps start count parts all part h f is =
     subst (Each (IsFormed R ps)) (sym is)
-    (each_join (IsFormed R ps) parts (part ∷ []) h
-    (formed_more R ps (take count (drop start ps)) part
-    (λ n b. each_front (HasBody n) (take count (drop start ps)) (drop count (drop start ps))
-    (subst (Each (HasBody n)) (sym (take-append-drop count (drop start ps)))
-    (each_back (HasBody n) (take start ps) (drop start ps) (subst (Each (HasBody n)) (sym (take-append-drop start ps)) b)))) f, tt))
+    (each_join (IsFormed R ps) parts (part ∷ []) h (
+      formed_more R ps (take count (drop start ps)) part
+          (λ n b. each_front (HasBody n) (take count (drop start ps)) (drop count (drop start ps))
+          (subst (Each (HasBody n)) (sym (take-append-drop count (drop start ps)))
+          (each_back (HasBody n) (take start ps) (drop start ps) (subst (Each (HasBody n)) (sym (take-append-drop start ps)) b)))) f,
+      tt,
+    ))

@@ -75,3 +75,10 @@ Widens r s = (s.low ≤ℤ r.low) × (r.high ≤ℤ s.high)
 -- the range has the numbers of the piece's box at this depth
 abbrev pub Covers : ℕ → Range → Piece → Type 0
 Covers depth r p = Widens (range_at depth p) r
+
+-- the range of one of these pieces at this depth begins there
+abbrev pub BeginsSome : ℕ → ℤ → List Piece → Type 0
+BeginsSome depth low ps = (p : Piece) × (In p ps × ((range_at depth p).low ≡ low))
+
+abbrev pub EndsSome : ℕ → ℤ → List Piece → Type 0
+EndsSome depth high ps = (p : Piece) × (In p ps × ((range_at depth p).high ≡ high))

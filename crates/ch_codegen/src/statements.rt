@@ -42,7 +42,7 @@ fn guarded_statement(alloc: Global, piece: &Piece) -> Result<Code, AllocError>
 }
 
 /// The statement of a piece that ends inside these loops.
-pub fn end_code(alloc: Global, piece: &Piece, ranges: &[Range]) -> Result<Code, AllocError>
+pub(crate) fn end_code(alloc: Global, piece: &Piece, ranges: &[Range]) -> Result<Code, AllocError>
     requires whole { IsWhole piece.now }
     requires ends { piece.now.levels ≡ length ranges.now }
     ensures lists { IfOk result (λ code. Lists ranges.now (piece.now ∷ []) (trace code)) }

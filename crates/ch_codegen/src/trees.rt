@@ -37,7 +37,12 @@ fn number_bounds(alloc: Global, depth: usize, number: i64) -> Result<List<Bound>
 }
 
 /// A loop over the numbers of a range, inside `depth` loops.
-pub fn loop_over(alloc: Global, depth: usize, range: Range, inner: Code) -> Result<Code, AllocError>
+pub(crate) fn loop_over(
+    alloc: Global,
+    depth: usize,
+    range: Range,
+    inner: Code,
+) -> Result<Code, AllocError>
     requires few { depth ≤ 4096 }
     requires range { IsBox range }
     ensures { IfOk result (λ code. code ≡ loop depth range.low range.high inner) }
@@ -54,7 +59,7 @@ pub fn loop_over(alloc: Global, depth: usize, range: Range, inner: Code) -> Resu
 }
 
 /// The parts one after another; a single part stands for itself.
-pub fn in_sequence(mut parts: List<Code>) -> Code
+pub(crate) fn in_sequence(mut parts: List<Code>) -> Code
     ensures { result ≡ sequence parts }
 {
     if parts.len() != 1 {

@@ -1,4 +1,3 @@
-use Rattle.std.proofs.lemmas.Bool.{OnTrue_at}
 use Rattle.std.proofs.lemmas.Result.{IfOk-weaker}
 use Rattle.ch_codegen.proofs.Forming.{guard_is_formed, leaf_is_formed}
 use Rattle.ch_codegen.proofs.Steps.{guard_listed, statement_listed}
@@ -8,7 +7,7 @@ pub returns-then-is_everywhere-clause-lists : goal.returns-then-is_everywhere-cl
 returns-then-is_everywhere-clause-lists c =
     IfOk-weaker c.statement.result _ _
     (λ code is. statement_listed c.args.ranges.now c.args.piece.now code c.requires.whole c.known_system.ensures c.requires.ends
-    (OnTrue_at c.if-is_everywhere.true c.is_everywhere.ensures.rows) (OnTrue_at c.if-is_everywhere.true c.is_everywhere.ensures.boxes) is)
+    (c.is_everywhere.ensures.0 c.if-is_everywhere.true).rows (c.is_everywhere.ensures.0 c.if-is_everywhere.true).boxes is)
     c.statement.ensures
 
 pub returns-then-is_everywhere-clause-formed : goal.returns-then-is_everywhere-clause-formed
