@@ -11,9 +11,8 @@ use Rattle.ch_space.specs.Pieces.{element_at, instances}
 use Rattle.ch_timed.specs.declared.element.Element.{Element}
 use Rattle.ch_timed.specs.Members.{Each, In}
 use Rattle.ch_timed.specs.Start.{turns_listed}
-use Rattle.ch_timed.proofs.Blocks.{Ascends, IsEarlier, ascends_both}
 use Rattle.ch_codegen.specs.LeastValues.{HoldEverywhere}
-use Rattle.ch_codegen.specs.Parts.{InRanges, IsAmong, Lists, looped, Together, Precedes, AllPrecede, Covers}
+use Rattle.ch_codegen.specs.Parts.{Ascends, InRanges, IsAmong, IsEarlier, Lists, looped, Together, Precedes, AllPrecede, Covers}
 use Rattle.ch_codegen.proofs.Inside.{in_append, append_left, append_right, length_inside, instance_inside, inside_instance, begun_inside, everywhere_begun, HasNumbers}
 use Rattle.ch_codegen.proofs.Vectors.{place_less, end_less, turn_less}
 
@@ -28,6 +27,14 @@ AreFit ps = (p : Piece) → In p ps → IsFit p
 pub each_in : {X : Type 0} (P : X → Type 0) (xs : List X) → ((x : X) → In x xs → P x) → Each P xs
 each_in P [] h = tt
 each_in P (x ∷ xs) h = (h x (inl refl), each_in P xs (λ y i. h y (inr i)))
+
+pub each_join : {X : Type 0} (P : X → Type 0) (xs ys : List X) → Each P xs → Each P ys → Each P (xs ++ ys)
+each_join P [] ys a b = b
+each_join P (x ∷ xs) ys a b = (a.0, each_join P xs ys a.1 b)
+
+ascends_both : (xs ys : List Element) → Ascends xs → Ascends ys → Each (λ e. Each (IsEarlier e) ys) xs → Ascends (xs ++ ys)
+ascends_both [] ys a b h = b
+ascends_both (x ∷ xs) ys a b h = (each_join (IsEarlier x) xs ys a.0 h.0, ascends_both xs ys a.1 b h.1)
 
 levels_of : (p : Piece) (xs : List ℤ) → IsFit p → In xs (instances p) → length xs ≡ p.levels
 levels_of p xs f i = length_inside (take p.levels p.system.boxes) xs (instance_inside p xs i).0 ∙ length-take-le p.levels p.system.boxes f.boxes

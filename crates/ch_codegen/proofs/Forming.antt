@@ -2,6 +2,7 @@
 use Rattle.std.proofs.Common.{◌≡◌, refl, sym, ap, ap₂, ◌∙◌, subst, ℕ, zero, suc, ◌+◌, ◌<◌, ◌≤◌, ◌^◌, ℤ, pos, ◌+ℤ◌, ◌≤ℤ◌, Bool, true, false, ◌&&◌, cond, nat_eq, nat_le, IsTrue, List, [], ◌∷◌, ◌++◌, map, length, take, drop, replicate, unsigned_abs, arith, length-append, take-append-drop}
 use Rattle.std.specs.List.{All, list_all, flat_map}
 use Rattle.std.proofs.lemmas.Bool.{and_from, and_parts}
+use Rattle.std.proofs.lemmas.Bool.Decides.{nat_tests}
 use Rattle.std.proofs.lemmas.Int.{ints}
 use Rattle.std.proofs.lemmas.List.Sums.{list_all-from_AllPass}
 use Rattle.ch_affine.specs.declared.system.Range.{Range}
@@ -24,7 +25,7 @@ use Rattle.ch_timed.proofs.Orders.{each_more}
 use Rattle.ch_codegen.specs.Formed.{HasBody, IsFormed}
 use Rattle.ch_codegen.specs.Made.{bound, leaf, guard, loop, sequence}
 use Rattle.ch_codegen.specs.Parts.{InRanges}
-use Rattle.ch_codegen.proofs.Executed.{counted, ranges_more}
+use Rattle.ch_codegen.proofs.Executed.{counted, each_join, ranges_more}
 use Rattle.ch_codegen.proofs.Traces.{high_is, low_is}
 
 -- one layer of each test
@@ -70,13 +71,13 @@ values_leaf p xs = ap (λ f. f xs) (ap loop_values (sym (rolls-Leaf p.label p.bo
 -- statements
 
 same_true : (n m : ℕ) → n ≡ m → nat_eq n m ≡ true
-same_true n m e = omega (arith, e)
+same_true n m e = grind (arith, nat_tests, e)
 
 le_true : (n m : ℕ) → n ≤ m → nat_le n m ≡ true
-le_true n m l = omega (arith, l)
+le_true n m l = grind (arith, nat_tests, l)
 
 forms_fit : (d : ℕ) (fs : List Form) → All (λ f. length f.coefs ≡ d) fs → list_all (form_fits d) fs ≡ true
-forms_fit d fs h = list_all-from_AllPass (form_fits d) fs (λ k f l. same_true (length f.coefs) d (h k f l))
+forms_fit d fs h = list_all-from_AllPass (form_fits d) fs (λ k f l. same_true _ d (h k f l))
 
 leaf_fit : (R : List Range) (p : Piece) (n : ℕ) → IsWhole p → p.levels ≡ length R → HasBody n p → fits n (leaf p) (length R) ≡ true
 leaf_fit R p n w l h =
@@ -127,10 +128,6 @@ loop_fit n d low high inner h =
     fits_loop n (d + 1) (bound d low ∷ []) (bound d high ∷ []) inner d
     ∙ and_from _ _
     (and_from _ _ (and_from _ _ (same_true (d + 1) (suc d) (omega arith)) (and_from _ _ refl (bounds_fit_one d low))) (and_from _ _ refl (bounds_fit_one d high))) h
-
-each_join : {X : Type 0} (P : X → Type 0) (xs ys : List X) → Each P xs → Each P ys → Each P (xs ++ ys)
-each_join P [] ys a b = b
-each_join P (x ∷ xs) ys a b = (a.0, each_join P xs ys a.1 b)
 
 each_front : {X : Type 0} (P : X → Type 0) (xs ys : List X) → Each P (xs ++ ys) → Each P xs
 each_front P [] ys h = tt

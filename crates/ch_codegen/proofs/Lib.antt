@@ -9,3 +9,4 @@ pub mod Rows
 pub mod Forming
 pub mod Whole
 pub mod SmallSpaces
+pub mod Siblings

@@ -2,6 +2,7 @@
 use Rattle.std.proofs.Common.{◌≡◌, refl, sym, ap, ap₂, ◌∙◌, subst, ℕ, zero, suc, ◌+◌, ◌<◌, ◌≤◌, ◌^◌, ℤ, Bool, true, ◌&&◌, nat_eq, nat_lt, List, [], ◌∷◌, ◌++◌, length, arith}
 use Rattle.std.specs.List.{All, list_all}
 use Rattle.std.proofs.lemmas.Bool.{and_from}
+use Rattle.std.proofs.lemmas.Bool.Decides.{nat_tests}
 use Rattle.std.proofs.lemmas.List.Sums.{list_all-from_AllPass}
 use Rattle.ch_affine.specs.Affine.{IsAtMost}
 use Rattle.ch_affine.specs.Rows.{IsSystem}
@@ -53,15 +54,15 @@ module _ (n : ℕ) where
       fold-roll-Expr Bool (iters_below_step n) x ∙ subst (λ z. below_layer z ≡ fit_layer z) is (same_layer y) ∙ sym (fold-roll-Expr Bool (iterators_fit_step n) x))
 
 same_true : (n m : ℕ) → n ≡ m → nat_eq n m ≡ true
-same_true n m e = omega (arith, e)
+same_true n m e = grind (arith, nat_tests, e)
 
 lt_true : (n m : ℕ) → n < m → nat_lt n m ≡ true
-lt_true n m l = omega (arith, l)
+lt_true n m l = grind (arith, nat_tests, l)
 
 access_fit : (arrays temps n : ℕ) (a : Access) → IsAccess arrays temps n a → access_fits (arrays + temps) n a ≡ true
 access_fit arrays temps n a i =
     and_from _ _ (lt_true a.array (arrays + temps) i.array)
-    (list_all-from_AllPass (λ s. form_fits n s.form) a.subs (λ k s l. same_true (length s.form.coefs) n (i.forms k s l)))
+    (list_all-from_AllPass (λ s. form_fits n s.form) a.subs (λ k s l. same_true _ n (i.forms k s l)))
 
 body_fit : (arrays temps n : ℕ) (b : Body) → IsBody arrays temps n b → body_fits (arrays + temps) n b ≡ true
 body_fit arrays temps n b i =

@@ -14,7 +14,6 @@ use Rattle.ch_space.specs.Keeps.{places_of}
 use Rattle.ch_timed.specs.declared.element.Element.{Element}
 use Rattle.ch_timed.specs.Members.{Each, In}
 use Rattle.ch_timed.specs.Start.{turns_listed}
-use Rattle.ch_timed.proofs.Blocks.{Ascends}
 
 -- the values lie in the ranges of the loops around, one in each
 abbrev pub InRanges : List Range → List ℤ → Type 0
@@ -26,6 +25,15 @@ InRanges (b ∷ bs) (x ∷ xs) = (b.low ≤ℤ x) × (x ≤ℤ b.high) × InRang
 -- the element is one of these pieces', at level values that begin with xs
 abbrev pub IsAmong : List Piece → List ℤ → Element → Type 0
 IsAmong ps xs e = (p : Piece) × (In p ps × ((ys : List ℤ) × (In (xs ++ ys) (instances p) × (element_at p (xs ++ ys) ≡ e))))
+
+-- the first element's vector comes before the other's
+abbrev pub IsEarlier : Element → Element → Type 0
+IsEarlier e d = slice_cmp int_cmp e.vector d.vector ≡ Less
+
+-- each element comes before those behind it
+abbrev pub Ascends : List Element → Type 0
+Ascends [] = Unit {0}
+Ascends (e ∷ es) = Each (IsEarlier e) es × Ascends es
 
 -- At values of the loops around, exactly these elements are executed, in the order of their vectors.
 pub record Lists (ranges : List Range) (ps : List Piece) (executed : Traced) : Type 0 where

@@ -19,7 +19,7 @@ use std::alloc::{AllocError, Global};
 
 /// The code of pieces inside loops that they share, which have these ranges: one part for each run, in their order.
 #[cycle(code)]
-fn code_of(alloc: Global, pieces: &[Piece], ranges: &[Range]) -> Result<Code, AllocError>
+pub(crate) fn code_of(alloc: Global, pieces: &[Piece], ranges: &[Range]) -> Result<Code, AllocError>
     requires apart { AreApart pieces.now }
     requires systems { AreSystems pieces.now }
     requires together { Together (length ranges.now) pieces.now }

@@ -1,7 +1,12 @@
 use Rattle.std.proofs.Common.{subst}
 use Rattle.ch_codegen.specs.Parts.{Widens}
-use Rattle.ch_codegen.proofs.Steps.{begins_more, covers_more, ends_more}
+use Rattle.ch_codegen.proofs.Steps.{begins_more, covers_more, ends_more, first_begins}
 use Rattle.ch_codegen.proofs.runs.shared_range.Goals as goal
+
+pub loop-piece-init : goal.loop-piece-init
+loop-piece-init c =
+    let ends = first_begins c.args.pieces.now c.args.depth c.index-pieces-0.result c.range_of-range.result c.requires.some c.index-pieces-0.is c.range_of-range.ensures.value in
+    record { fits = c.range_of-range.ensures.fits; covers = tt; low = ends.0; high = ends.1 }
 
 pub loop-piece-preserved : goal.loop-piece-preserved
 loop-piece-preserved c = record {
