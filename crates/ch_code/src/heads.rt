@@ -41,7 +41,8 @@ fn put_more_bounds(
 ) -> Result<(), AllocError>
     requires { IsTrue (list_all is_ascii rounding.now) }
     ensures { OnOk result
-        (out.new ≡ out.old ++ flat_map (behind (codes ", ") (bound_text rounding.now around)) bounds.now) }
+        (out.new
+        ≡ out.old ++ flat_map (behind (codes ", ") (bound_text rounding.now around)) bounds.now) }
 {
     for bound in bounds {
         out.append(b", ")?;
@@ -85,8 +86,8 @@ fn put_many(
     out.append(b")")
 }
 
-/// Adds where a loop begins or ends: `chosen` names the choice among bounds, `rounding` the rounding of
-/// each.
+/// Adds where a loop begins or ends: `chosen` names the choice among bounds, `rounding` the
+/// rounding of each.
 fn put_end(
     out: &mut Text,
     chosen: &[u8],

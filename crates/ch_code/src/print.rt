@@ -103,8 +103,8 @@ fn next(count: usize) -> Result<usize, AllocError>
     count.checked_add(1).ok_or(AllocError)
 }
 
-/// Where code stands: behind a head or on a line of its own, the level of the line, and how many loops
-/// are around it.
+/// Where code stands: behind a head or on a line of its own, the level of the line, and how many
+/// loops are around it.
 #[derive(Clone, Copy)]
 struct Spot {
     behind: bool,
@@ -147,7 +147,8 @@ fn put_loop_head(
 ) -> Result<Spot, AllocError>
     ensures added { OnOk result
         (out.new
-        ≡ out.old ++ lead spot.behind spot.level ++ for_text spot.around number lows.now highs.now) }
+        ≡ out.old ++ lead spot.behind spot.level
+        ++ for_text spot.around number lows.now highs.now) }
     ensures behind { IfOk result (λ inside. IsTrue inside.behind) }
     ensures level { IfOk result (λ inside. inside.level ≡ level_of spot.behind spot.level) }
     ensures around { IfOk result (λ inside. inside.around ≡ suc spot.around) }

@@ -169,8 +169,7 @@ fn writes_seven(alloc: Global, array: u32) -> Result<Code, Fail> {
     })
 }
 
-fn vector(alloc: Global, name: &[u8]) -> Result<ArrayDecl, Fail> {
-    let name = Text::of(alloc, name)?;
+fn vector(alloc: Global, name: Text) -> Result<ArrayDecl, Fail> {
     let extents = List::from_slice(alloc, [2].as_slice())?;
     Ok(ArrayDecl { name, extents })
 }
@@ -188,9 +187,9 @@ array A[2]\n\
 fn names_that_are_not_an_arrays_own_are_not_used(rt: HostRuntime) -> Result<(), Fail> {
     let alloc = rt.alloc();
     let mut arrays = List::new(alloc);
-    arrays.push(vector(alloc, b"a \"b\\")?)?;
-    arrays.push(vector(alloc, b"A")?)?;
-    arrays.push(vector(alloc, b"A")?)?;
+    arrays.push(vector(alloc, Text::of(alloc, b"a \"b\\")?)?)?;
+    arrays.push(vector(alloc, Text::of(alloc, b"A")?)?)?;
+    arrays.push(vector(alloc, Text::of(alloc, b"A")?)?)?;
     let mut parts = List::new(alloc);
     for array in 0..3u32 {
         parts.push(writes_seven(alloc, array)?)?;

@@ -10,7 +10,8 @@ use ch_affine::wide::{plus, times};
 use ch_affine::{Aff, Range};
 use ch_space::Piece;
 
-/// The least value of a coefficient times a number of the range: a negative coefficient has it at the range's high.
+/// The least value of a coefficient times a number of the range: a negative coefficient has it at
+/// the range's high.
 fn least_term(coef: i64, range: Range) -> i128
     requires coef { IsAtMost (2 ^ 60) coef }
     requires range { IsBox range }

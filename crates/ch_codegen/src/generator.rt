@@ -17,7 +17,8 @@ use ch_nest::Nest;
 use ch_space::{Piece, Space};
 use std::alloc::{AllocError, Global};
 
-/// The code of pieces inside loops that they share, which have these ranges: one part for each run, in their order.
+/// The code of pieces inside loops that they share, which have these ranges: one part for each run,
+/// in their order.
 #[cycle(code)]
 pub(crate) fn code_of(alloc: Global, pieces: &[Piece], ranges: &[Range]) -> Result<Code, AllocError>
     requires apart { AreApart pieces.now }
@@ -59,11 +60,12 @@ fn run_code(alloc: Global, run: &[Piece], ranges: &[Range]) -> Result<Code, Allo
     loop_over(alloc, depth, range, inner)
 }
 
-/// Code that executes a space's list, in the order of its time vectors, over the nest's arrays and the space's buffers.
+/// Code that executes a space's list, in the order of its time vectors, over the nest's arrays and
+/// the space's buffers.
 ///
-/// Neighbouring pieces that share the places before a loop share the loop, which runs from the least to the greatest value that
-/// any of them has there. A statement stands under the guard of its piece's system, unless the loops around run over exactly
-/// its instances.
+/// Neighbouring pieces that share the places before a loop share the loop, which runs from the
+/// least to the greatest value that any of them has there. A statement stands under the guard of
+/// its piece's system, unless the loops around run over exactly its instances.
 pub fn generate(alloc: Global, nest: &Nest, s: &Space) -> Result<Unit, AllocError>
     requires { s.now.arrays ≡ length nest.now.arrays }
     ensures trace { IfOk result (λ u. unit_trace u ≡ s.now.list) }

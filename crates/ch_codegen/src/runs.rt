@@ -1,7 +1,6 @@
 //! Runs: neighbouring pieces that share the next loop, and the range of that loop.
 
-ghost use Rattle.std.specs.Prelude.{◌≡◌, ◌<◌, ◌≤◌, [], ◌∷◌, ◌++◌, length, take, drop, IfOk};
-ghost use Rattle.std.proofs.Common.{◌⊎◌};
+ghost use Rattle.std.specs.Prelude.{◌≡◌, ◌⊎◌, ◌<◌, ◌≤◌, [], ◌∷◌, ◌++◌, length, take, drop, IfOk};
 ghost use Rattle.ch_affine.specs.Rows.{IsBox};
 ghost use Rattle.ch_space.specs.Keeps.{AreApart};
 ghost use Rattle.ch_timed.specs.Members.{Each};
@@ -76,8 +75,8 @@ fn joined(ours: Range, theirs: Range) -> Range
     }
 }
 
-/// The least range that has the ranges of all these pieces at the loop inside `depth` others: its low is that of a piece, and its
-/// high that of a piece.
+/// The least range that has the ranges of all these pieces at the loop inside `depth` others: its
+/// low is that of a piece, and its high that of a piece.
 pub(crate) fn shared_range(pieces: &[Piece], depth: usize) -> Range
     requires some { 0 < length pieces.now }
     requires deep { Each (λ p. depth < length p.system.boxes) pieces.now }

@@ -1,4 +1,5 @@
-//! The call on a space without pieces, on two statements that share one loop, and on two in loops of their own.
+//! The call on a space without pieces, on two statements that share one loop, and on two in loops
+//! of their own.
 
 ghost use Rattle.std.specs.Prelude.{◌≡◌, ◌≤ℤ◌, pos, [], ◌∷◌, length, IfOk};
 ghost use Rattle.ch_codegen.specs.SmallSpace.{assigns, both, first_level, piece, placed, sibling, siblings};

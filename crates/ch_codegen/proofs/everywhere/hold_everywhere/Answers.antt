@@ -20,5 +20,5 @@ returns-then-least_value-lt0 c =
     let low : c.least_value.result <ℤ pos 0 = grind (arith, ints, less) in (
       λ f. absurd (false≢true f),
       λ all. fails_there c.args.rows.now c.args.boxes.now c.loop-row.row-index c.row-item.result c.loop-row-test.true c.row-item.is
-      (rw c.row-item.is (c.requires.same c.loop-row.row-index c.row-item.result c.loop-row-test.true)) c.requires.boxes (subst (λ z. z <ℤ pos 0) c.least_value.ensures low) all,
+          (rw c.row-item.is (c.requires.same c.loop-row.row-index c.row-item.result c.loop-row-test.true)) c.requires.boxes (subst (λ z. z <ℤ pos 0) c.least_value.ensures low) all,
     )
