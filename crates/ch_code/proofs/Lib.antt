@@ -1,3 +1,4 @@
+pub mod EmptyUnits
 pub mod ReadBodies
 pub mod ReadCode
 pub mod ReadExprs

@@ -15,7 +15,7 @@ use Rattle.ch_code.specs.CodeText.{array_line, buffer_line, buffer_lines, code_t
 use Rattle.ch_code.specs.declared.code.Code.{Code}
 use Rattle.ch_code.specs.declared.code.Code.TheOpen.{Code-F}
 use Rattle.ch_code.specs.declared.code.Code.TheViews.{out-Code}
-use Rattle.ch_code.specs.declared.code.Unit as unit
+use Rattle.ch_code.specs.UnitParts.{UnitParts}
 use Rattle.ch_code.proofs.ReadBodies.{named, plain_first, plain_words}
 use Rattle.ch_code.proofs.ReadCode.{layer, opened, read_code}
 use Rattle.ch_code.proofs.ReadForms.{behind_one, starts_apart}
@@ -155,23 +155,23 @@ behind_arrays arrays (t ∷ ts) k c r = ap (leads 97) (append_assoc (buffer_line
 behind_buffers : (arrays : List ArrayDecl) (c : Code) (r : List ℕ) → leads 98 (code_text arrays c false 0 0 ++ r) ≡ false
 behind_buffers arrays c r = code_test (leads 98) (λ x. refl) (λ x. refl) (λ x. refl) (λ x. refl) (λ x. refl) arrays c r
 
-abbrev whole : unit.Unit → List ℕ
+abbrev whole : UnitParts → List ℕ
 whole u = flat_map array_line u.arrays ++ (buffer_lines 0 u.temps ++ (code_text u.arrays u.root false 0 0 ++ []))
 
-unit_is : (u : unit.Unit) → unit_text u ≡ whole u
+unit_is : (u : UnitParts) → unit_text u ≡ whole u
 unfolding unit_text
 unit_is u =
     append_assoc (flat_map array_line u.arrays) (buffer_lines 0 u.temps) (code_text u.arrays u.root false 0 0)
     ∙ ap (λ t. flat_map array_line u.arrays ++ (buffer_lines 0 u.temps ++ t)) (sym (append-nil (code_text u.arrays u.root false 0 0)))
 
-made_same : (u v : unit.Unit) → u.root ≡ v.root → u.arrays ≡ v.arrays → u.temps ≡ v.temps → u ≡ v
+made_same : (u v : UnitParts) → u.root ≡ v.root → u.arrays ≡ v.arrays → u.temps ≡ v.temps → u ≡ v
 made_same u v r a t =
-    let with_root : Code → unit.Unit = λ c. record { root = c; arrays = u.arrays; temps = u.temps } in
-    let with_arrays : List ArrayDecl → unit.Unit = λ ds. record { root = v.root; arrays = ds; temps = u.temps } in
-    let with_temps : List (List ℕ) → unit.Unit = λ ts. record { root = v.root; arrays = v.arrays; temps = ts } in
+    let with_root : Code → UnitParts = λ c. record { root = c; arrays = u.arrays; temps = u.temps } in
+    let with_arrays : List ArrayDecl → UnitParts = λ ds. record { root = v.root; arrays = ds; temps = u.temps } in
+    let with_temps : List (List ℕ) → UnitParts = λ ts. record { root = v.root; arrays = v.arrays; temps = ts } in
     ap with_root r ∙ ap with_arrays a ∙ ap with_temps t
 
-pub same_unit : (u v : unit.Unit) → unit_text u ≡ unit_text v → u ≡ v
+pub same_unit : (u v : UnitParts) → unit_text u ≡ unit_text v → u ≡ v
 same_unit u v e =
     let a = read_all (λ k. array_line) (λ k. flat_map array_line) (λ k. refl) (λ k x xs. refl) (leads 97) (λ t. Unit {0}) (λ k x t. ap (leads 97) (array_line_is x t)) (λ k x t. tt)
     (λ k x y r q hr hq. read_array_line x y r q) 0 u.arrays v.arrays _ _ (behind_arrays u.arrays u.temps 0 u.root []) (behind_arrays v.arrays v.temps 0 v.root []) tt tt

@@ -14,7 +14,7 @@ use Rattle.ch_timed.specs.declared.element.Label.{Label}
 use Rattle.ch_code.specs.BodyText.{access_text, expr_layer, expr_text, infix_text}
 use Rattle.ch_code.specs.FormText.{original, variable_text}
 use Rattle.ch_code.specs.LoopText.{for_text, if_text}
-use Rattle.ch_code.specs.CodeText.{Printed, brace_lead, code_layer, code_text, lead, leaf_text, level_of, margin, parts_text}
+use Rattle.ch_code.specs.CodeText.{Printed, brace_lead, braced_text, code_layer, code_text, lead, leaf_text, level_of}
 use Rattle.ch_code.specs.declared.code.Bound.{Bound}
 use Rattle.ch_code.specs.declared.code.Code.{Code}
 use Rattle.ch_code.specs.declared.code.Code.TheVariants.{Seq, Loop, Guard, Leaf, rolls-Seq, rolls-Loop, rolls-Guard, rolls-Leaf}
@@ -47,8 +47,7 @@ module _ (arrays : List ArrayDecl) (behind : Bool) (level around : ℕ) where
   at_place e = ap (λ f. f behind level around) e
 
   pub seq_is : (parts : List Code)
-      → code_text arrays (Seq parts) behind level around
-      ≡ brace_lead behind level ++ codes "{\n" ++ parts_text (map (code_text arrays) parts) (suc level) around ++ margin level ++ codes "}\n"
+      → code_text arrays (Seq parts) behind level around ≡ brace_lead behind level ++ braced_text (map (code_text arrays) parts) level around
   seq_is parts = at_place (ap (code_text arrays) (sym (rolls-Seq parts)) ∙ fold-roll-Code Printed (code_layer arrays) _)
 
   pub loop_is : (number : ℕ) (lows highs : List Bound) (inner : Code)

@@ -1,16 +1,17 @@
 -- Texts of lists, one element further.
-use Rattle.std.proofs.Common.{◌≡◌, refl, ap, ◌∙◌, ℕ, zero, suc, ◌+◌, ◌<◌, ◌≤◌, ℤ, Bool, true, false, not, ◌&&◌, List, [], ◌∷◌, ◌++◌, get_or, take, drop, length, map, inl, inr, arith, append_assoc}
+use Rattle.std.proofs.Common.{◌≡◌, refl, sym, ap, ◌∙◌, subst, ℕ, zero, suc, ◌+◌, ◌<◌, ◌≤◌, ℤ, Bool, true, false, not, ◌&&◌, List, [], ◌∷◌, ◌++◌, get_or, take, drop, length, map, inl, inr, arith, append_assoc, length-append}
 use Rattle.std.specs.Prelude.{codes}
 use Rattle.std.specs.List.{list_all}
 use Rattle.std.proofs.lemmas.Bool.{both_ways, cases_lt}
-use Rattle.std.proofs.lemmas.List.{drop_more}
+use Rattle.std.proofs.lemmas.List.{drop_more, get_or_append_left}
+use Rattle.std.proofs.Math.Seq.{get_or-append_seam}
 use Rattle.ch_nest.specs.declared.nest.ArrayDecl.{ArrayDecl}
 use Rattle.ch_affine.specs.Form.{Form}
 use Rattle.ch_affine.specs.declared.system.Range.{Range}
 use Rattle.ch_print.specs.Numbers.{number_text}
 use Rattle.ch_code.specs.FormText.{is_zero, sum_text, term_text, times_text}
 use Rattle.ch_code.specs.LoopText.{divided_text, more_ranges_text, range_text}
-use Rattle.ch_code.specs.BodyText.{has_other, is_digit, is_own, is_plain, is_word, nth_name}
+use Rattle.ch_code.specs.BodyText.{has_other, is_digit, is_own, is_plain, is_word, nth_name, own_flags}
 use Rattle.ch_code.specs.CodeText.{buffer_line, buffer_lines, code_text, margin, more_origins_text, origin_text, parts_text}
 use Rattle.ch_code.specs.declared.code.Code.{Code}
 
@@ -92,6 +93,40 @@ own_inside arrays n h = elim (cases_lt n (length arrays)) as (λ _. n < length a
   | inl below ↦ below
   | inr past ↦ absurd (both_ways _ (own_past arrays n past) h)
 ]
+
+flags_long : (arrays : List ArrayDecl) (n : ℕ) → length (own_flags arrays n) ≡ n
+flags_long arrays zero = refl
+flags_long arrays (suc n) = let l = length-append (own_flags arrays n) (is_own arrays n ∷ []) in let m = flags_long arrays n in omega (arith, l, m)
+
+flags_push : (arrays : List ArrayDecl) (n : ℕ) → own_flags arrays (suc n) ≡ own_flags arrays n ++ is_own arrays n ∷ []
+flags_push arrays n = refl
+
+pub flags_more : (arrays : List ArrayDecl) (n : ℕ) → own_flags arrays (n + 1) ≡ own_flags arrays n ++ is_own arrays n ∷ []
+flags_more arrays n = let s : n + 1 ≡ suc n = omega arith in rw s (flags_push arrays n)
+
+last_flag : (arrays : List ArrayDecl) (n : ℕ) (d : Bool) → get_or (own_flags arrays n ++ is_own arrays n ∷ []) n d ≡ is_own arrays n
+last_flag arrays n d =
+    subst (λ m. get_or (own_flags arrays n ++ is_own arrays n ∷ []) m d ≡ is_own arrays n) (flags_long arrays n) (get_or-append_seam (own_flags arrays n) (is_own arrays n) [] d)
+
+flag_at : (arrays : List ArrayDecl) (n k : ℕ) (d : Bool) → k < n → get_or (own_flags arrays n) k d ≡ is_own arrays k
+flag_at arrays zero k d l = absurd (omega arith)
+flag_at arrays (suc n) k d l = elim (cases_lt k n) as (λ _. get_or (own_flags arrays n ++ is_own arrays n ∷ []) k d ≡ is_own arrays k) [
+  | inl below ↦ get_or_append_left (own_flags arrays n) (is_own arrays n ∷ []) d k (omega (arith, flags_long arrays n, below)) ∙ flag_at arrays n k d below
+  | inr past ↦
+      let e : k ≡ n = omega (arith, past, l) in
+      subst (λ m. get_or (own_flags arrays n ++ is_own arrays n ∷ []) m d ≡ is_own arrays m) (sym e) (last_flag arrays n d)
+]
+
+-- what the flags of all arrays say of one
+pub flags_say : (arrays : List ArrayDecl) (own : List Bool) (k : ℕ) (d : Bool) → own ≡ own_flags arrays (length arrays) → k < length own → get_or own k d ≡ is_own arrays k
+flags_say arrays own k d e l =
+    let long = ap length e ∙ flags_long arrays (length arrays) in
+    ap (λ flags. get_or flags k d) e ∙ flag_at arrays (length arrays) k d (omega (arith, long, l))
+
+pub flags_end : (arrays : List ArrayDecl) (own : List Bool) (k : ℕ) → own ≡ own_flags arrays (length arrays) → length own ≤ k → is_own arrays k ≡ false
+flags_end arrays own k e l =
+    let long = ap length e ∙ flags_long arrays (length arrays) in
+    own_past arrays k (omega (arith, long, l))
 
 pub divided_other : (rounding : List ℕ) (n : ℕ) (form : List ℕ) → (n ≡ 1 → ⊥) → divided_text rounding n form ≡ rounding ++ codes "((" ++ form ++ codes ") / " ++ number_text n ++ codes ")"
 divided_other rounding zero form h = refl

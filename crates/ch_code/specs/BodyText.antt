@@ -37,6 +37,11 @@ has_other name d = not (bytes_eq d.name name)
 abbrev pub is_own : List ArrayDecl → ℕ → Bool
 is_own arrays n = is_plain (nth_name arrays n) && list_all (has_other (nth_name arrays n)) (take n arrays)
 
+-- whether each of the first n arrays has a name of its own
+abbrev pub own_flags : List ArrayDecl → ℕ → List Bool
+own_flags arrays zero = []
+own_flags arrays (suc n) = own_flags arrays n ++ is_own arrays n ∷ []
+
 -- a buffer is numbered behind the arrays
 abbrev pub other_text : ℕ → ℕ → List ℕ
 other_text count n = cond (nat_lt n count) (codes "#" ++ number_text n) (buffer_text (n - count))

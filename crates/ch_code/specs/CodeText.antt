@@ -14,7 +14,7 @@ use Rattle.ch_code.specs.LoopText.{for_text, if_text}
 use Rattle.ch_code.specs.declared.code.Code.{Code}
 use Rattle.ch_code.specs.declared.code.Code.TheOpen.{Code-F}
 use Rattle.ch_code.specs.declared.code.Code.TheFolds.{fold-Code}
-use Rattle.ch_code.specs.declared.code.Unit as unit
+use Rattle.ch_code.specs.UnitParts.{UnitParts}
 
 -- an original iterator as a form of the values of the loops around
 unfoldable pub origin_text : ℕ → ℕ → Form → List ℕ
@@ -67,9 +67,12 @@ abbrev pub parts_text : List Printed → ℕ → ℕ → List ℕ
 parts_text [] level around = []
 parts_text (p ∷ ps) level around = p false level around ++ parts_text ps level around
 
+-- parts between braces, of which the second begins a line at the level
+abbrev pub braced_text : List Printed → ℕ → ℕ → List ℕ
+braced_text parts level around = codes "{\n" ++ parts_text parts (suc level) around ++ margin level ++ codes "}\n"
+
 abbrev pub code_layer : List ArrayDecl → Code-F Printed → Printed
-code_layer arrays (Code-F.Seq parts) behind level around =
-    brace_lead behind level ++ codes "{\n" ++ parts_text parts (suc level) around ++ margin level ++ codes "}\n"
+code_layer arrays (Code-F.Seq parts) behind level around = brace_lead behind level ++ braced_text parts level around
 code_layer arrays (Code-F.Loop number lows highs inner) behind level around =
     lead behind level ++ for_text around number lows highs ++ inner true (level_of behind level) (suc around)
 code_layer arrays (Code-F.Guard system inner) behind level around =
@@ -104,5 +107,5 @@ abbrev pub buffer_lines : ℕ → List (List ℕ) → List ℕ
 buffer_lines k [] = []
 buffer_lines k (t ∷ ts) = buffer_line k t ++ buffer_lines (suc k) ts
 
-unfoldable pub unit_text : unit.Unit → List ℕ
+unfoldable pub unit_text : UnitParts → List ℕ
 unit_text u = flat_map array_line u.arrays ++ buffer_lines 0 u.temps ++ code_text u.arrays u.root false 0 0

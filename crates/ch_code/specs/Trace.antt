@@ -6,7 +6,7 @@ use Rattle.ch_code.specs.declared.code.Bound.{Bound}
 use Rattle.ch_code.specs.declared.code.Code.{Code}
 use Rattle.ch_code.specs.declared.code.Code.TheOpen.{Code-F}
 use Rattle.ch_code.specs.declared.code.Code.TheFolds.{fold-Code}
-use Rattle.ch_code.specs.declared.code.Unit as unit
+use Rattle.ch_code.specs.UnitParts.{UnitParts}
 use Rattle.ch_nest.specs.Run.{greatest, least, count}
 use Rattle.ch_poly.specs.Points.{begins_some}
 use Rattle.ch_timed.specs.declared.element.Element.{Element}
@@ -44,5 +44,5 @@ abbrev pub trace : Code → Traced
 trace = fold-Code Traced trace_step
 
 -- the elements that a unit executes
-abbrev pub unit_trace : unit.Unit → List Element
+abbrev pub unit_trace : UnitParts → List Element
 unit_trace u = trace u.root []

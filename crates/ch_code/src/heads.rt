@@ -40,7 +40,9 @@ fn put_more_bounds(
     bounds: &[Bound],
 ) -> Result<(), AllocError>
     requires { IsTrue (list_all is_ascii rounding.now) }
-    ensures { OnOk result (out.new ≡ out.old ++ flat_map (behind (codes ", ") (bound_text rounding.now around)) bounds.now) }
+    ensures { OnOk result
+        (out.new
+        ≡ out.old ++ flat_map (behind (codes ", ") (bound_text rounding.now around)) bounds.now) }
 {
     for bound in bounds {
         out.append(b", ")?;
@@ -56,7 +58,8 @@ fn put_bounds(
     bounds: &[Bound],
 ) -> Result<(), AllocError>
     requires { IsTrue (list_all is_ascii rounding.now) }
-    ensures { OnOk result (out.new ≡ out.old ++ separated (codes ", ") (bound_text rounding.now around) bounds.now) }
+    ensures { OnOk result
+        (out.new ≡ out.old ++ separated (codes ", ") (bound_text rounding.now around) bounds.now) }
 {
     let Some((first, rest)) = bounds.split_first() else {
         return Ok(());
@@ -74,7 +77,8 @@ fn put_many(
 ) -> Result<(), AllocError>
     requires chosen { IsTrue (list_all is_ascii chosen.now) }
     requires rounding { IsTrue (list_all is_ascii rounding.now) }
-    ensures { OnOk result (out.new ≡ out.old ++ many_text chosen.now rounding.now around bounds.now) }
+    ensures { OnOk result
+        (out.new ≡ out.old ++ many_text chosen.now rounding.now around bounds.now) }
 {
     out.append(chosen)?;
     out.append(b"(")?;
@@ -82,7 +86,8 @@ fn put_many(
     out.append(b")")
 }
 
-/// Adds where a loop begins or ends: `chosen` names the choice among bounds, `rounding` the rounding of each.
+/// Adds where a loop begins or ends: `chosen` names the choice among bounds, `rounding` the
+/// rounding of each.
 fn put_end(
     out: &mut Text,
     chosen: &[u8],
@@ -92,7 +97,8 @@ fn put_end(
 ) -> Result<(), AllocError>
     requires chosen { IsTrue (list_all is_ascii chosen.now) }
     requires rounding { IsTrue (list_all is_ascii rounding.now) }
-    ensures { OnOk result (out.new ≡ out.old ++ end_text chosen.now rounding.now around bounds.now) }
+    ensures { OnOk result
+        (out.new ≡ out.old ++ end_text chosen.now rounding.now around bounds.now) }
 {
     match bounds {
         [bound] => put_bound(out, rounding, around, bound),

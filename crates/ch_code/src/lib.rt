@@ -5,6 +5,7 @@ mod bodies;
 mod code;
 mod forms;
 mod heads;
+mod names;
 mod print;
 #[cfg(test)]
 mod tests;

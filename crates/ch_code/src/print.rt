@@ -1,13 +1,15 @@
 ghost use Rattle.std.specs.Prelude.{◌≡◌, ◌<◌, ◌++◌, suc, false, length, map, OnOk, IfOk, IsTrue};
 ghost use Rattle.std.specs.List.{flat_map};
-ghost use Rattle.ch_code.specs.CodeText.{array_line, brace_lead, buffer_line, buffer_lines, code_text, escaped, extent_text, instance_text, lead, leaf_text, level_of, margin, more_origins_text, name_text, origin_text, origins_text, parts_text, place_text, quoted, unit_text};
-ghost use Rattle.ch_code.specs.declared.code.Unit as unit;
+ghost use Rattle.ch_code.specs.LoopText.{for_text, if_text};
+ghost use Rattle.ch_code.specs.CodeText.{array_line, brace_lead, braced_text, buffer_line, buffer_lines, code_text, escaped, extent_text, instance_text, lead, leaf_text, level_of, margin, more_origins_text, name_text, origin_text, origins_text, place_text, quoted, unit_text};
+ghost use Rattle.ch_code.specs.UnitParts.{UnitParts, unit_of};
 
-use crate::bodies::{is_plain, put_body};
-use crate::code::{Code, Unit};
+use crate::bodies::put_body;
+use crate::code::{Bound, Code, Unit};
 use crate::forms::{LOOPED, ORIGINAL, put_form, put_variable};
 use crate::heads::{put_for, put_if};
-use ch_affine::{Aff, List, Text};
+use crate::names::{Names, is_plain};
+use ch_affine::{Aff, List, System, Text};
 use ch_nest::{ArrayDecl, Body};
 use ch_print::{put_buffer, put_label, put_number};
 use ch_timed::Label;
@@ -66,20 +68,21 @@ fn put_instance(
 #[tactic(auto, unfolding(crate::specs::CodeText::leaf_text))]
 fn put_leaf(
     out: &mut Text,
-    arrays: &[ArrayDecl],
+    names: &Names,
     around: usize,
     label: Label,
     body: &Body,
     origin: &[Aff],
     places: &[u32],
 ) -> Result<(), AllocError>
-    ensures { OnOk result (out.new ≡ out.old ++ leaf_text arrays.now around label body.now origin.now places.now) }
+    ensures { OnOk result
+        (out.new ≡ out.old ++ leaf_text names.now around label body.now origin.now places.now) }
 {
     put_instance(out, around, label, origin)?;
     out.append(b" at")?;
     put_places(out, places)?;
     out.append(b": ")?;
-    put_body(out, arrays, origin.len(), body)?;
+    put_body(out, names, origin.len(), body)?;
     out.append(b"\n")
 }
 
@@ -100,67 +103,107 @@ fn next(count: usize) -> Result<usize, AllocError>
     count.checked_add(1).ok_or(AllocError)
 }
 
-fn put_lead(out: &mut Text, behind: bool, level: usize) -> Result<usize, AllocError>
-    ensures added { OnOk result (out.new ≡ out.old ++ lead behind level) }
-    ensures level { IfOk result (λ own. own ≡ level_of behind level) }
+/// Where code stands: behind a head or on a line of its own, the level of the line, and how many
+/// loops are around it.
+#[derive(Clone, Copy)]
+struct Spot {
+    behind: bool,
+    level: usize,
+    around: usize,
+}
+
+/// Begins a line where code stands on one of its own, and gives its level.
+fn put_lead(out: &mut Text, spot: Spot) -> Result<usize, AllocError>
+    ensures added { OnOk result (out.new ≡ out.old ++ lead spot.behind spot.level) }
+    ensures level { IfOk result (λ own. own ≡ level_of spot.behind spot.level) }
 {
-    if !behind {
-        put_margin(out, level)?;
-        return Ok(level);
+    if !spot.behind {
+        put_margin(out, spot.level)?;
+        return Ok(spot.level);
     }
-    let own = next(level)?;
+    let own = next(spot.level)?;
     out.append(b"\n")?;
     put_margin(out, own)?;
     Ok(own)
 }
 
-fn put_brace_lead(out: &mut Text, behind: bool, level: usize) -> Result<(), AllocError>
-    ensures { OnOk result (out.new ≡ out.old ++ brace_lead behind level) }
+fn put_brace_lead(out: &mut Text, spot: Spot) -> Result<(), AllocError>
+    ensures { OnOk result (out.new ≡ out.old ++ brace_lead spot.behind spot.level) }
 {
-    if behind {
+    if spot.behind {
         out.append(b" ")
     } else {
-        put_margin(out, level)
+        put_margin(out, spot.level)
     }
 }
 
-/// Adds code inside `around` loops: behind a head, or on a line of its own at this level.
+/// Adds a loop's head, and gives where the code inside it stands.
+fn put_loop_head(
+    out: &mut Text,
+    number: u32,
+    lows: &[Bound],
+    highs: &[Bound],
+    spot: Spot,
+) -> Result<Spot, AllocError>
+    ensures added { OnOk result
+        (out.new
+        ≡ out.old ++ lead spot.behind spot.level
+        ++ for_text spot.around number lows.now highs.now) }
+    ensures behind { IfOk result (λ inside. IsTrue inside.behind) }
+    ensures level { IfOk result (λ inside. inside.level ≡ level_of spot.behind spot.level) }
+    ensures around { IfOk result (λ inside. inside.around ≡ suc spot.around) }
+{
+    let level = put_lead(out, spot)?;
+    put_for(out, spot.around, number, lows, highs)?;
+    let around = next(spot.around)?;
+    Ok(Spot {
+        behind: true,
+        level,
+        around,
+    })
+}
+
+/// Adds a guard's head, and gives where the code inside it stands.
+fn put_guard_head(out: &mut Text, system: &System, spot: Spot) -> Result<Spot, AllocError>
+    ensures added { OnOk result
+        (out.new ≡ out.old ++ lead spot.behind spot.level ++ if_text spot.around system.now) }
+    ensures behind { IfOk result (λ inside. IsTrue inside.behind) }
+    ensures level { IfOk result (λ inside. inside.level ≡ level_of spot.behind spot.level) }
+    ensures around { IfOk result (λ inside. inside.around ≡ spot.around) }
+{
+    let level = put_lead(out, spot)?;
+    put_if(out, spot.around, system)?;
+    Ok(Spot {
+        behind: true,
+        level,
+        around: spot.around,
+    })
+}
+
+/// Adds code where it stands.
 #[cycle(code)]
 #[tactic(auto, using(crate::proofs::Rolls::seq_is, crate::proofs::Rolls::loop_is, crate::proofs::Rolls::guard_is, crate::proofs::Rolls::leaf_is))]
-fn put_code(
-    out: &mut Text,
-    arrays: &[ArrayDecl],
-    code: &Code,
-    behind: bool,
-    level: usize,
-    around: usize,
-) -> Result<(), AllocError>
-    ensures { OnOk result (out.new ≡ out.old ++ code_text arrays.now code.now behind level around) }
+fn put_code(out: &mut Text, names: &Names, code: &Code, spot: Spot) -> Result<(), AllocError>
+    ensures { OnOk result
+        (out.new ≡ out.old ++ code_text names.now code.now spot.behind spot.level spot.around) }
 {
     match code {
         Code::Seq(parts) => {
-            put_brace_lead(out, behind, level)?;
-            out.append(b"{\n")?;
-            let deeper = next(level)?;
-            put_parts(out, arrays, parts.as_slice(), deeper, around)?;
-            put_margin(out, level)?;
-            out.append(b"}\n")
+            put_brace_lead(out, spot)?;
+            put_parts(out, names, parts.as_slice(), spot.level, spot.around)
         }
         Code::Loop {
-            level: number,
+            level,
             lows,
             highs,
             inner,
         } => {
-            let own = put_lead(out, behind, level)?;
-            put_for(out, around, *number, lows.as_slice(), highs.as_slice())?;
-            let deeper = next(around)?;
-            put_code(out, arrays, inner.get(), true, own, deeper)
+            let inside = put_loop_head(out, *level, lows.as_slice(), highs.as_slice(), spot)?;
+            put_code(out, names, inner.get(), inside)
         }
         Code::Guard { system, inner } => {
-            let own = put_lead(out, behind, level)?;
-            put_if(out, around, system)?;
-            put_code(out, arrays, inner.get(), true, own, around)
+            let inside = put_guard_head(out, system, spot)?;
+            put_code(out, names, inner.get(), inside)
         }
         Code::Leaf {
             label,
@@ -168,35 +211,37 @@ fn put_code(
             origin,
             places,
         } => {
-            let _ = put_lead(out, behind, level)?;
-            put_leaf(
-                out,
-                arrays,
-                around,
-                *label,
-                body,
-                origin.as_slice(),
-                places.as_slice(),
-            )
+            let _ = put_lead(out, spot)?;
+            let (origin, places) = (origin.as_slice(), places.as_slice());
+            put_leaf(out, names, spot.around, *label, body, origin, places)
         }
     }
 }
 
+/// Adds parts between braces, of which the second stands at this level.
 #[cycle(code)]
 #[tactic(auto, using(crate::proofs::Steps::parts_more))]
 fn put_parts(
     out: &mut Text,
-    arrays: &[ArrayDecl],
+    names: &Names,
     parts: &[Code],
     level: usize,
     around: usize,
 ) -> Result<(), AllocError>
-    ensures { OnOk result (out.new ≡ out.old ++ parts_text (map (code_text arrays.now) parts.now) level around) }
+    ensures { OnOk result
+        (out.new ≡ out.old ++ braced_text (map (code_text names.now) parts.now) level around) }
 {
+    out.append(b"{\n")?;
+    let spot = Spot {
+        behind: false,
+        level: next(level)?,
+        around,
+    };
     for part in parts {
-        put_code(out, arrays, part, false, level, around)?;
+        put_code(out, names, part, spot)?;
     }
-    Ok(())
+    put_margin(out, level)?;
+    out.append(b"}\n")
 }
 
 fn put_escaped(out: &mut Text, byte: u8) -> Result<(), AllocError>
@@ -278,19 +323,42 @@ fn put_buffer_lines(out: &mut Text, temps: &[List<u32>]) -> Result<(), AllocErro
     Ok(())
 }
 
-/// The text of a unit for people.
+/// The text of the unit of these parts.
 #[tactic(auto, unfolding(crate::specs::CodeText::unit_text))]
+pub(crate) fn text_of(
+    alloc: Global,
+    root: &Code,
+    arrays: &[ArrayDecl],
+    temps: &[List<u32>],
+) -> Result<Text, AllocError>
+    ensures { IfOk result (λ text. text ≡ unit_text (unit_of root.now arrays.now temps.now)) }
+{
+    let mut out = Text::new(alloc);
+    put_array_lines(&mut out, arrays)?;
+    put_buffer_lines(&mut out, temps)?;
+    let names = Names::of(alloc, arrays)?;
+    let spot = Spot {
+        behind: false,
+        level: 0,
+        around: 0,
+    };
+    put_code(&mut out, &names, root, spot)?;
+    Ok(out)
+}
+
+/// The text of a unit for people.
 pub fn code_text(alloc: Global, unit: &Unit) -> Result<Text, AllocError>
     ensures { IfOk result (λ text. text ≡ unit_text unit.now) }
 {
-    let mut out = Text::new(alloc);
-    put_array_lines(&mut out, unit.arrays.as_slice())?;
-    put_buffer_lines(&mut out, unit.temps.as_slice())?;
-    put_code(&mut out, unit.arrays.as_slice(), &unit.root, false, 0, 0)?;
-    Ok(out)
+    text_of(
+        alloc,
+        &unit.root,
+        unit.arrays.as_slice(),
+        unit.temps.as_slice(),
+    )
 }
 
 /// States that units of one text are one, whatever is in them. It does nothing.
 pub fn texts_differ()
-    ensures { (u v : unit.Unit) → unit_text u ≡ unit_text v → u ≡ v }
+    ensures { (u v : UnitParts) → unit_text u ≡ unit_text v → u ≡ v }
 {}

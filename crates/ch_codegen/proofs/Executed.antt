@@ -11,9 +11,8 @@ use Rattle.ch_space.specs.Pieces.{element_at, instances}
 use Rattle.ch_timed.specs.declared.element.Element.{Element}
 use Rattle.ch_timed.specs.Members.{Each, In}
 use Rattle.ch_timed.specs.Start.{turns_listed}
-use Rattle.ch_timed.proofs.Blocks.{Ascends, IsEarlier, ascends_both}
 use Rattle.ch_codegen.specs.LeastValues.{HoldEverywhere}
-use Rattle.ch_codegen.specs.Parts.{InRanges, IsAmong, Lists, looped, Together, Precedes, AllPrecede, Covers}
+use Rattle.ch_codegen.specs.Parts.{Ascends, InRanges, IsAmong, IsEarlier, Lists, looped, Together, Precedes, AllPrecede, Covers}
 use Rattle.ch_codegen.proofs.Inside.{in_append, append_left, append_right, length_inside, instance_inside, inside_instance, begun_inside, everywhere_begun, HasNumbers}
 use Rattle.ch_codegen.proofs.Vectors.{place_less, end_less, turn_less}
 
@@ -28,6 +27,14 @@ AreFit ps = (p : Piece) → In p ps → IsFit p
 pub each_in : {X : Type 0} (P : X → Type 0) (xs : List X) → ((x : X) → In x xs → P x) → Each P xs
 each_in P [] h = tt
 each_in P (x ∷ xs) h = (h x (inl refl), each_in P xs (λ y i. h y (inr i)))
+
+pub each_join : {X : Type 0} (P : X → Type 0) (xs ys : List X) → Each P xs → Each P ys → Each P (xs ++ ys)
+each_join P [] ys a b = b
+each_join P (x ∷ xs) ys a b = (a.0, each_join P xs ys a.1 b)
+
+ascends_both : (xs ys : List Element) → Ascends xs → Ascends ys → Each (λ e. Each (IsEarlier e) ys) xs → Ascends (xs ++ ys)
+ascends_both [] ys a b h = b
+ascends_both (x ∷ xs) ys a b h = (each_join (IsEarlier x) xs ys a.0 h.0, ascends_both xs ys a.1 b h.1)
 
 levels_of : (p : Piece) (xs : List ℤ) → IsFit p → In xs (instances p) → length xs ≡ p.levels
 levels_of p xs f i = length_inside (take p.levels p.system.boxes) xs (instance_inside p xs i).0 ∙ length-take-le p.levels p.system.boxes f.boxes
@@ -102,13 +109,13 @@ turns_ascend (suc n) low g a b =
     (each_in (λ e. Each (IsEarlier e) (g (low +ℤ pos n))) (turns_listed n low g)
     (λ e i. each_in (IsEarlier e) (g (low +ℤ pos n)) (λ d k. let r = in_turns n low g e i in b r.0 n e d r.1.0 (omega arith) r.1.1 k)))
 
-ranges_more : (R : List Range) (r : Range) (xs : List ℤ) (x : ℤ) → InRanges R xs → r.low ≤ℤ x → x ≤ℤ r.high → InRanges (R ++ r ∷ []) (xs ++ x ∷ [])
+pub ranges_more : (R : List Range) (r : Range) (xs : List ℤ) (x : ℤ) → InRanges R xs → r.low ≤ℤ x → x ≤ℤ r.high → InRanges (R ++ r ∷ []) (xs ++ x ∷ [])
 ranges_more [] r [] x h l u = (l, u, tt)
 ranges_more [] r (y ∷ xs) x h l u = absurd h
 ranges_more (b ∷ R) r [] x h l u = absurd h
 ranges_more (b ∷ R) r (y ∷ xs) x h l u = (h.0, h.1, ranges_more R r xs x h.2 l u)
 
-counted : (low high : ℤ) (j : ℕ) → j < count low high → (low +ℤ pos j) ≤ℤ high
+pub counted : (low high : ℤ) (j : ℕ) → j < count low high → (low +ℤ pos j) ≤ℤ high
 counted low high j h = grind (arith, ints)
 
 counts : (low high : ℤ) (j : ℕ) → (low +ℤ pos j) ≤ℤ high → j < count low high

@@ -6,4 +6,7 @@ pub mod Listed
 pub mod Traces
 pub mod Steps
 pub mod Rows
+pub mod Forming
+pub mod Whole
 pub mod SmallSpaces
+pub mod Siblings

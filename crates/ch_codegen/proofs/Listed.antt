@@ -10,9 +10,8 @@ use Rattle.ch_space.specs.Pieces.{element_at, instances, elements, listed}
 use Rattle.ch_timed.specs.declared.element.Element.{Element}
 use Rattle.ch_timed.specs.Members.{In}
 use Rattle.ch_timed.specs.Timed.{in_order}
-use Rattle.ch_timed.proofs.Blocks.{Ascends, IsEarlier}
-use Rattle.ch_timed.proofs.Orders.{OneEach, at_each, in_map, map_in, not_itself, ascending_same, ordered_ascends, from_order, to_order}
-use Rattle.ch_codegen.specs.Parts.{IsAmong, Lists}
+use Rattle.ch_timed.proofs.Orders.{IsAscending, OneEach, at_each, in_map, map_in, not_itself, ascending_same, ordered_ascends, from_order, to_order}
+use Rattle.ch_codegen.specs.Parts.{Ascends, IsAmong, IsEarlier, Lists}
 use Rattle.ch_codegen.proofs.Inside.{in_flat, flat_in}
 
 abbrev vector_of : Element → List ℤ
@@ -29,6 +28,10 @@ ascending_one (x ∷ xs) a e d (inl k) (inr j) v = absurd (never_same x d (at_ea
 ascending_one (x ∷ xs) a e d (inr i) (inl l) v = absurd (never_same x e (at_each (IsEarlier x) xs a.0 e i) (ap vector_of l ∙ sym v))
 ascending_one (x ∷ xs) a e d (inr i) (inr j) v = ascending_one xs a.1 e d i j v
 
+ascending : (xs : List Element) → Ascends xs → IsAscending vector_of xs
+ascending [] a = tt
+ascending (x ∷ xs) a = (a.0, ascending xs a.1)
+
 to_elements : (ps : List Piece) (e : Element) → IsAmong ps [] e → In e (flat_map elements ps)
 to_elements ps e m = flat_in elements ps m.0 e m.1.0 (subst (λ z. In z (elements m.0)) m.1.1.1.1 (map_in (element_at m.0) (instances m.0) m.1.1.0 m.1.1.1.0))
 
@@ -43,6 +46,6 @@ all_listed ps t a =
     let all = flat_map elements ps in
     let into : (e : Element) → In e all → In e (t []) = λ e i. a.each [] e tt (from_elements ps e i) in
     let one : OneEach vector_of all = λ e d i j v. ascending_one (t []) (a.ascends [] tt) e d (into e i) (into d j) v in
-    ascending_same vector_of (t []) (in_order all) (a.ascends [] tt) (ordered_ascends vector_of all)
+    ascending_same vector_of (t []) (in_order all) (ascending (t []) (a.ascends [] tt)) (ordered_ascends vector_of all)
     (λ e i. to_order vector_of all one e (to_elements ps e (a.only [] e tt i)))
     (λ e i. into e (from_order vector_of all e i))

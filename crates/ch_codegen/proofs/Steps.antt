@@ -10,13 +10,13 @@ use Rattle.ch_space.specs.declared.piece.Piece.{Piece}
 use Rattle.ch_space.specs.Keeps.{IsWhole, AreApart}
 use Rattle.ch_timed.specs.Members.{Each, In}
 use Rattle.ch_timed.proofs.Orders.{at_each, each_more}
-use Rattle.ch_codegen.specs.Made.{leaf, guard, loop}
+use Rattle.ch_codegen.specs.Made.{leaf, guard, loop, sequence}
 use Rattle.ch_codegen.specs.LeastValues.{HoldEverywhere}
-use Rattle.ch_codegen.specs.Parts.{Lists, Together, AreSystems, place, range_at, IsRun, StopsAt, Precedes, AllPrecede, Widens, Covers}
+use Rattle.ch_codegen.specs.Parts.{Lists, Together, AreSystems, place, range_at, IsRun, StopsAt, Precedes, AllPrecede, Widens, Covers, BeginsSome, EndsSome}
 use Rattle.ch_codegen.proofs.Inside.{in_append, append_left, append_right, has_numbers}
 use Rattle.ch_codegen.proofs.Executed.{IsFit, each_in, lists_same, lists_both, lists_loop, lists_guarded, lists_bare}
 use Rattle.ch_codegen.proofs.Neighbours.{whole_in, are_fit, apart_front, apart_back, systems_front, systems_back, together_back, run_of_one, run_of_many, run_ends, run_goes_on}
-use Rattle.ch_codegen.proofs.Traces.{trace_leaf, trace_guarded, trace_looped, parts_more}
+use Rattle.ch_codegen.proofs.Traces.{trace_leaf, trace_guarded, trace_looped, trace_sequence, parts_more}
 
 read_in : {X : Type 0} (xs : List X) (k : ℕ) (x : X) → k < length xs → x ≡ get_or xs k x → In x xs
 read_in [] k x l e = absurd (omega arith)
@@ -144,10 +144,10 @@ precede_more d ps start count before run p q i j =
       | inr m ↦ run p q m k
     ]
 
-pub code_whole : (R : List Range) (ps : List Piece) (parts : List Code) (code : Code) (start : ℕ) → length ps ≤ start → ((xs : List ℤ) → trace code xs ≡ one_by_one (map trace parts) xs)
+pub code_whole : (R : List Range) (ps : List Piece) (parts : List Code) (code : Code) (start : ℕ) → length ps ≤ start → code ≡ sequence parts
     → Lists R (take start ps) (one_by_one (map trace parts)) → Lists R ps (trace code)
-code_whole R ps parts code start l same lists =
-    lists_same R ps _ _ (λ xs h. sym (same xs)) (subst (λ z. Lists R z (one_by_one (map trace parts))) (take_all start ps l) lists)
+code_whole R ps parts code start l is lists =
+    lists_same R ps _ _ (λ xs h. sym (trace_sequence parts xs) ∙ ap (λ c. trace c xs) (sym is)) (subst (λ z. Lists R z (one_by_one (map trace parts))) (take_all start ps l) lists)
 
 pub run_is_one : (ps : List Piece) (d : ℕ) (p : Piece) → 0 < length ps → p ≡ get_or ps 0 p → IsRun d ps → p.levels ≡ d → ps ≡ p ∷ []
 run_is_one [] d p l e r s = absurd (omega arith)
@@ -180,3 +180,22 @@ pub run_whole : (ps : List Piece) (d k here : ℕ) (p : Piece) → AreApart ps �
     → ((q : Piece) → In q (take k ps) → place d q ≡ here) → length ps ≤ k → IsRun d (take (length ps) ps)
 run_whole ps d k here p a s t l e m h n same far =
     subst (IsRun d) (take_all k ps far ∙ sym (take_all (length ps) ps (omega arith))) (run_many ps d k here p a s t l e m h n same (stops_end ps k d here far)).0
+
+pub first_begins : (ps : List Piece) (d : ℕ) (p : Piece) (r : Range) → 0 < length ps → p ≡ get_or ps 0 p → r ≡ range_at d p → BeginsSome d r.low ps × EndsSome d r.high ps
+first_begins ps d p r l e is =
+    let i = read_in ps 0 p l e in
+    ((p, (i, ap (λ z. z.low) (sym is))), (p, (i, ap (λ z. z.high) (sym is))))
+
+pub begins_more : (ps : List Piece) (k d : ℕ) (p : Piece) (r t : Range) (low : ℤ) → k < length ps → p ≡ get_or ps k p → t ≡ range_at d p → BeginsSome d r.low ps
+    → (low ≡ r.low) ⊎ (low ≡ t.low) → BeginsSome d low ps
+begins_more ps k d p r t low l e is b h = elim h as (λ _. BeginsSome d low ps) [
+  | inl s ↦ subst (λ z. BeginsSome d z ps) (sym s) b
+  | inr s ↦ (p, (read_in ps k p l e, ap (λ z. z.low) (sym is) ∙ sym s))
+]
+
+pub ends_more : (ps : List Piece) (k d : ℕ) (p : Piece) (r t : Range) (high : ℤ) → k < length ps → p ≡ get_or ps k p → t ≡ range_at d p → EndsSome d r.high ps
+    → (high ≡ r.high) ⊎ (high ≡ t.high) → EndsSome d high ps
+ends_more ps k d p r t high l e is b h = elim h as (λ _. EndsSome d high ps) [
+  | inl s ↦ subst (λ z. EndsSome d z ps) (sym s) b
+  | inr s ↦ (p, (read_in ps k p l e, ap (λ z. z.high) (sym is) ∙ sym s))
+]

@@ -10,7 +10,7 @@ use Rattle.ch_code.specs.declared.code.Bound.{Bound}
 use Rattle.ch_code.specs.declared.code.Code.{Code}
 use Rattle.ch_code.specs.declared.code.Code.TheOpen.{Code-F}
 use Rattle.ch_code.specs.declared.code.Code.TheFolds.{fold-roll-Code}
-use Rattle.ch_code.specs.declared.code.Code.TheVariants.{Loop, Guard, rolls-Loop, rolls-Guard, rolls-Leaf}
+use Rattle.ch_code.specs.declared.code.Code.TheVariants.{Seq, Loop, Guard, rolls-Seq, rolls-Loop, rolls-Guard, rolls-Leaf}
 use Rattle.ch_code.specs.Trace.{Traced, trace, trace_step, one_by_one, guarded, low_of, high_of}
 use Rattle.ch_nest.specs.Run.{count}
 use Rattle.ch_poly.specs.Points.{begins_some}
@@ -18,7 +18,15 @@ use Rattle.ch_space.specs.declared.piece.Piece.{Piece}
 use Rattle.ch_space.specs.Pieces.{element_at}
 use Rattle.ch_timed.specs.Start.{turns_listed}
 use Rattle.ch_codegen.specs.Parts.{looped}
-use Rattle.ch_codegen.specs.Made.{bound, leaf, guard, loop}
+use Rattle.ch_codegen.specs.Made.{bound, leaf, guard, loop, sequence}
+
+trace_seq : (parts : List Code) (xs : List ℤ) → trace (Seq parts) xs ≡ one_by_one (map trace parts) xs
+trace_seq parts xs = ap (λ f. f xs) (ap trace (sym (rolls-Seq parts)) ∙ fold-roll-Code Traced trace_step _)
+
+pub trace_sequence : (parts : List Code) (xs : List ℤ) → trace (sequence parts) xs ≡ one_by_one (map trace parts) xs
+trace_sequence [] xs = trace_seq [] xs
+trace_sequence (c ∷ []) xs = sym (append-nil (trace c xs))
+trace_sequence (c ∷ d ∷ more) xs = trace_seq (c ∷ d ∷ more) xs
 
 trace_loop : (level : ℕ) (lows highs : List Bound) (inner : Code) → trace (Loop level lows highs inner) ≡ trace_step (Code-F.Loop level lows highs (trace inner))
 trace_loop level lows highs inner = ap trace (sym (rolls-Loop level lows highs inner)) ∙ fold-roll-Code Traced trace_step _
@@ -44,10 +52,10 @@ whole_quotient : (z : ℤ) → int_div_euclid z (pos 1) ≡ z
 whole_quotient (pos n) = omega (arith, ints)
 whole_quotient (negsuc n) = omega (arith, ints)
 
-low_is : (n : ℕ) (z : ℤ) (xs : List ℤ) → low_of (bound n z ∷ []) xs ≡ z
+pub low_is : (n : ℕ) (z : ℤ) (xs : List ℤ) → low_of (bound n z ∷ []) xs ≡ z
 low_is n z xs = ap (λ v. neg_ℤ (int_div_euclid (neg_ℤ v) (pos 1))) (bound_value n z xs) ∙ ap neg_ℤ (whole_quotient (neg_ℤ z)) ∙ omega (arith, ints)
 
-high_is : (n : ℕ) (z : ℤ) (xs : List ℤ) → high_of (bound n z ∷ []) xs ≡ z
+pub high_is : (n : ℕ) (z : ℤ) (xs : List ℤ) → high_of (bound n z ∷ []) xs ≡ z
 high_is n z xs = ap (λ v. int_div_euclid v (pos 1)) (bound_value n z xs) ∙ whole_quotient z
 
 pub trace_looped : (depth : ℕ) (low high : ℤ) (inner : Code) (xs : List ℤ) → trace (loop depth low high inner) xs ≡ looped low high (trace inner) xs

@@ -1,9 +1,8 @@
 -- What the code of some pieces executes inside the loops that they share.
-use Rattle.std.specs.Prelude.{◌≡◌, ◌≢◌, ℕ, suc, ◌<◌, ◌≤◌, ℤ, pos, ◌≤ℤ◌, List, [], ◌∷◌, ◌++◌, take, slice_index_or}
+use Rattle.std.specs.Prelude.{◌≡◌, ◌≢◌, ◌⊎◌, ℕ, suc, ◌<◌, ◌≤◌, ℤ, pos, ◌≤ℤ◌, List, [], ◌∷◌, ◌++◌, take, slice_index_or}
 use Rattle.std.specs.Ordering.{int_cmp}
 use Rattle.std.specs.Cmp.Lexicographic.{slice_cmp}
 use Rattle.std.specs.declared.cmp.Ordering.TheVariants.{Less}
-use Rattle.std.proofs.Common.{◌⊎◌}
 use Rattle.ch_affine.specs.declared.system.Range.{Range}
 use Rattle.ch_affine.specs.Rows.{IsSystem}
 use Rattle.ch_code.specs.Trace.{Traced}
@@ -14,7 +13,6 @@ use Rattle.ch_space.specs.Keeps.{places_of}
 use Rattle.ch_timed.specs.declared.element.Element.{Element}
 use Rattle.ch_timed.specs.Members.{Each, In}
 use Rattle.ch_timed.specs.Start.{turns_listed}
-use Rattle.ch_timed.proofs.Blocks.{Ascends}
 
 -- the values lie in the ranges of the loops around, one in each
 abbrev pub InRanges : List Range → List ℤ → Type 0
@@ -26,6 +24,15 @@ InRanges (b ∷ bs) (x ∷ xs) = (b.low ≤ℤ x) × (x ≤ℤ b.high) × InRang
 -- the element is one of these pieces', at level values that begin with xs
 abbrev pub IsAmong : List Piece → List ℤ → Element → Type 0
 IsAmong ps xs e = (p : Piece) × (In p ps × ((ys : List ℤ) × (In (xs ++ ys) (instances p) × (element_at p (xs ++ ys) ≡ e))))
+
+-- the first element's vector comes before the other's
+abbrev pub IsEarlier : Element → Element → Type 0
+IsEarlier e d = slice_cmp int_cmp e.vector d.vector ≡ Less
+
+-- each element comes before those behind it
+abbrev pub Ascends : List Element → Type 0
+Ascends [] = Unit {0}
+Ascends (e ∷ es) = Each (IsEarlier e) es × Ascends es
 
 -- At values of the loops around, exactly these elements are executed, in the order of their vectors.
 pub record Lists (ranges : List Range) (ps : List Piece) (executed : Traced) : Type 0 where
@@ -75,3 +82,10 @@ Widens r s = (s.low ≤ℤ r.low) × (r.high ≤ℤ s.high)
 -- the range has the numbers of the piece's box at this depth
 abbrev pub Covers : ℕ → Range → Piece → Type 0
 Covers depth r p = Widens (range_at depth p) r
+
+-- the range of one of these pieces at this depth begins there
+abbrev pub BeginsSome : ℕ → ℤ → List Piece → Type 0
+BeginsSome depth low ps = (p : Piece) × (In p ps × ((range_at depth p).low ≡ low))
+
+abbrev pub EndsSome : ℕ → ℤ → List Piece → Type 0
+EndsSome depth high ps = (p : Piece) × (In p ps × ((range_at depth p).high ≡ high))

@@ -1,17 +1,17 @@
 //! Pieces that have an instance at all values of the loops around.
 
-ghost use Rattle.std.specs.Prelude.{◌≡◌, ◌≤◌, ◌^◌, ◌+ℤ◌, length, take};
-ghost use Rattle.std.specs.Bool.{OnTrue};
+ghost use Rattle.std.specs.Prelude.{◌≡◌, ◌≤◌, ◌^◌, ◌+ℤ◌, length, IsTrue, ◌↔◌};
 ghost use Rattle.std.specs.List.{All};
 ghost use Rattle.ch_affine.specs.Affine.{IsAtMost};
 ghost use Rattle.ch_affine.specs.Rows.{IsBox, IsSystem};
-ghost use Rattle.ch_codegen.specs.LeastValues.{HoldEverywhere, least_sum, least_term, least_value};
+ghost use Rattle.ch_codegen.specs.LeastValues.{HoldEverywhere, IsEverywhere, least_sum, least_term, least_value};
 
 use ch_affine::wide::{plus, times};
 use ch_affine::{Aff, Range};
 use ch_space::Piece;
 
-/// The least value of a coefficient times a number of the range: a negative coefficient has it at the range's high.
+/// The least value of a coefficient times a number of the range: a negative coefficient has it at
+/// the range's high.
 fn least_term(coef: i64, range: Range) -> i128
     requires coef { IsAtMost (2 ^ 60) coef }
     requires range { IsBox range }
@@ -52,7 +52,7 @@ fn least_value(row: &Aff, boxes: &[Range]) -> i128
 fn hold_everywhere(rows: &[Aff], boxes: &[Range]) -> bool
     requires same { All (λ f. length f.coefs ≡ length boxes.now) rows.now }
     requires boxes { All IsBox boxes.now }
-    ensures { OnTrue result (HoldEverywhere rows.now boxes.now) }
+    ensures { IsTrue result ↔ HoldEverywhere rows.now boxes.now }
 {
     for row in rows {
         if least_value(row, boxes) < 0 {
@@ -64,7 +64,7 @@ fn hold_everywhere(rows: &[Aff], boxes: &[Range]) -> bool
 
 fn same_ranges(ours: &[Range], theirs: &[Range]) -> bool
     requires { length theirs.now ≡ length ours.now }
-    ensures { OnTrue result (ours.now ≡ theirs.now) }
+    ensures { IsTrue result ↔ (ours.now ≡ theirs.now) }
 {
     for k in 0..ours.len() {
         if ours[k].low != theirs[k].low || ours[k].high != theirs[k].high {
@@ -75,11 +75,10 @@ fn same_ranges(ours: &[Range], theirs: &[Range]) -> bool
 }
 
 /// Whether the loops around have the ranges of the piece's box, and its rows hold everywhere in it.
-pub fn is_everywhere(piece: &Piece, ranges: &[Range]) -> bool
+pub(crate) fn is_everywhere(piece: &Piece, ranges: &[Range]) -> bool
     requires system { IsSystem piece.now.system }
     requires inside { length ranges.now ≤ length piece.now.system.boxes }
-    ensures rows { OnTrue result (HoldEverywhere piece.now.system.rows piece.now.system.boxes) }
-    ensures boxes { OnTrue result (take (length ranges.now) piece.now.system.boxes ≡ ranges.now) }
+    ensures { IsTrue result ↔ IsEverywhere ranges.now piece.now }
 {
     let boxes = piece.system.boxes.as_slice();
     same_ranges(&boxes[..ranges.len()], ranges)

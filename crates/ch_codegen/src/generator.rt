@@ -3,6 +3,7 @@
 ghost use Rattle.std.specs.Prelude.{◌≡◌, ◌<◌, length, IfOk};
 ghost use Rattle.ch_code.specs.Trace.{trace, unit_trace};
 ghost use Rattle.ch_space.specs.Keeps.{AreApart};
+ghost use Rattle.ch_codegen.specs.Formed.{IsFormed};
 ghost use Rattle.ch_codegen.specs.Parts.{AreSystems, IsRun, Lists, Together};
 
 use crate::runs::{extended, run_end, shared_range};
@@ -16,13 +17,15 @@ use ch_nest::Nest;
 use ch_space::{Piece, Space};
 use std::alloc::{AllocError, Global};
 
-/// The code of pieces inside loops that they share, which have these ranges: one part for each run, in their order.
+/// The code of pieces inside loops that they share, which have these ranges: one part for each run,
+/// in their order.
 #[cycle(code)]
-fn code_of(alloc: Global, pieces: &[Piece], ranges: &[Range]) -> Result<Code, AllocError>
+pub(crate) fn code_of(alloc: Global, pieces: &[Piece], ranges: &[Range]) -> Result<Code, AllocError>
     requires apart { AreApart pieces.now }
     requires systems { AreSystems pieces.now }
     requires together { Together (length ranges.now) pieces.now }
-    ensures { IfOk result (λ code. Lists ranges.now pieces.now (trace code)) }
+    ensures lists { IfOk result (λ code. Lists ranges.now pieces.now (trace code)) }
+    ensures formed { IfOk result (λ code. IsFormed ranges.now pieces.now code) }
 {
     let mut parts = List::new(alloc);
     let mut start = 0;
@@ -43,7 +46,8 @@ fn run_code(alloc: Global, run: &[Piece], ranges: &[Range]) -> Result<Code, Allo
     requires apart { AreApart run.now }
     requires systems { AreSystems run.now }
     requires run { IsRun (length ranges.now) run.now }
-    ensures { IfOk result (λ code. Lists ranges.now run.now (trace code)) }
+    ensures lists { IfOk result (λ code. Lists ranges.now run.now (trace code)) }
+    ensures formed { IfOk result (λ code. IsFormed ranges.now run.now code) }
 {
     let first = &run[0];
     let depth = ranges.len();
@@ -56,11 +60,12 @@ fn run_code(alloc: Global, run: &[Piece], ranges: &[Range]) -> Result<Code, Allo
     loop_over(alloc, depth, range, inner)
 }
 
-/// Code that executes a space's list, in the order of its time vectors, over the nest's arrays and the space's buffers.
+/// Code that executes a space's list, in the order of its time vectors, over the nest's arrays and
+/// the space's buffers.
 ///
-/// Neighbouring pieces that share the places before a loop share the loop, which runs from the least to the greatest value that
-/// any of them has there. A statement stands under the guard of its piece's system, unless the loops around run over exactly
-/// its instances.
+/// Neighbouring pieces that share the places before a loop share the loop, which runs from the
+/// least to the greatest value that any of them has there. A statement stands under the guard of
+/// its piece's system, unless the loops around run over exactly its instances.
 pub fn generate(alloc: Global, nest: &Nest, s: &Space) -> Result<Unit, AllocError>
     requires { s.now.arrays ≡ length nest.now.arrays }
     ensures trace { IfOk result (λ u. unit_trace u ≡ s.now.list) }

@@ -1,5 +1,5 @@
-//! Code for a space: loops that neighbouring pieces share, with a guard around each statement that needs one, whose trace is
-//! the space's list.
+//! Code for a space: loops that neighbouring pieces share, with a guard around each statement that
+//! needs one, whose trace is the space's list.
 #![tactic(auto)]
 
 mod everywhere;

@@ -1,10 +1,10 @@
 //! Runs: neighbouring pieces that share the next loop, and the range of that loop.
 
-ghost use Rattle.std.specs.Prelude.{◌≡◌, ◌<◌, ◌≤◌, [], ◌∷◌, ◌++◌, length, take, drop, IfOk};
+ghost use Rattle.std.specs.Prelude.{◌≡◌, ◌⊎◌, ◌<◌, ◌≤◌, [], ◌∷◌, ◌++◌, length, take, drop, IfOk};
 ghost use Rattle.ch_affine.specs.Rows.{IsBox};
 ghost use Rattle.ch_space.specs.Keeps.{AreApart};
 ghost use Rattle.ch_timed.specs.Members.{Each};
-ghost use Rattle.ch_codegen.specs.Parts.{AllPrecede, AreSystems, Covers, IsRun, Together, place, range_at, Widens};
+ghost use Rattle.ch_codegen.specs.Parts.{AllPrecede, AreSystems, BeginsSome, Covers, EndsSome, IsRun, Together, place, range_at, Widens};
 
 use ch_affine::{List, Range};
 use ch_space::Piece;
@@ -19,7 +19,7 @@ fn place_of(piece: &Piece, depth: usize) -> u32
 }
 
 /// How many of the first pieces form a run inside `depth` loops.
-pub fn run_end(pieces: &[Piece], depth: usize) -> usize
+pub(crate) fn run_end(pieces: &[Piece], depth: usize) -> usize
     requires some { 0 < length pieces.now }
     requires apart { AreApart pieces.now }
     requires systems { AreSystems pieces.now }
@@ -58,6 +58,8 @@ fn joined(ours: Range, theirs: Range) -> Range
     ensures fits { IsBox result }
     ensures ours { Widens ours result }
     ensures theirs { Widens theirs result }
+    ensures low { (result.low ≡ ours.low) ⊎ (result.low ≡ theirs.low) }
+    ensures high { (result.high ≡ ours.high) ⊎ (result.high ≡ theirs.high) }
 {
     Range {
         low: if theirs.low < ours.low {
@@ -73,12 +75,15 @@ fn joined(ours: Range, theirs: Range) -> Range
     }
 }
 
-/// The least range that has all values which these pieces have of the loop inside `depth` others.
-pub fn shared_range(pieces: &[Piece], depth: usize) -> Range
+/// The least range that has the ranges of all these pieces at the loop inside `depth` others: its
+/// low is that of a piece, and its high that of a piece.
+pub(crate) fn shared_range(pieces: &[Piece], depth: usize) -> Range
     requires some { 0 < length pieces.now }
     requires deep { Each (λ p. depth < length p.system.boxes) pieces.now }
     ensures fits { IsBox result }
     ensures covers { Each (Covers depth result) pieces.now }
+    ensures low { BeginsSome depth result.low pieces.now }
+    ensures high { EndsSome depth result.high pieces.now }
 {
     let mut range = range_of(&pieces[0], depth);
     for piece in pieces {
@@ -87,7 +92,11 @@ pub fn shared_range(pieces: &[Piece], depth: usize) -> Range
     range
 }
 
-pub fn extended(alloc: Global, ranges: &[Range], inner: Range) -> Result<List<Range>, AllocError>
+pub(crate) fn extended(
+    alloc: Global,
+    ranges: &[Range],
+    inner: Range,
+) -> Result<List<Range>, AllocError>
     ensures { IfOk result (λ it. it ≡ ranges.now ++ inner ∷ []) }
 {
     let mut all = List::from_slice(alloc, ranges)?;

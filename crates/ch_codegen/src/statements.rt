@@ -4,6 +4,7 @@ ghost use Rattle.std.specs.Prelude.{◌≡◌, ◌≤◌, [], ◌∷◌, length,
 ghost use Rattle.std.specs.Bool.{OnTrue};
 ghost use Rattle.ch_code.specs.Trace.{trace};
 ghost use Rattle.ch_space.specs.Keeps.{IsWhole};
+ghost use Rattle.ch_codegen.specs.Formed.{IsFormed};
 ghost use Rattle.ch_codegen.specs.Parts.{Lists};
 ghost use Rattle.ch_codegen.specs.Made.{leaf, guard};
 
@@ -41,10 +42,11 @@ fn guarded_statement(alloc: Global, piece: &Piece) -> Result<Code, AllocError>
 }
 
 /// The statement of a piece that ends inside these loops.
-pub fn end_code(alloc: Global, piece: &Piece, ranges: &[Range]) -> Result<Code, AllocError>
+pub(crate) fn end_code(alloc: Global, piece: &Piece, ranges: &[Range]) -> Result<Code, AllocError>
     requires whole { IsWhole piece.now }
     requires ends { piece.now.levels ≡ length ranges.now }
-    ensures { IfOk result (λ code. Lists ranges.now (piece.now ∷ []) (trace code)) }
+    ensures lists { IfOk result (λ code. Lists ranges.now (piece.now ∷ []) (trace code)) }
+    ensures formed { IfOk result (λ code. IsFormed ranges.now (piece.now ∷ []) code) }
 {
     known_system(&piece.system);
     if is_everywhere(piece, ranges) {

@@ -6,13 +6,13 @@ ghost use Rattle.ch_codegen.specs.Parts.{AreSystems};
 use ch_affine::System;
 use ch_space::Piece;
 
-pub fn known_system(system: &System)
+pub(crate) fn known_system(system: &System)
     ensures { IsSystem system.now }
 {
     let _ = system.rows.len();
 }
 
-pub fn known_systems(pieces: &[Piece])
+pub(crate) fn known_systems(pieces: &[Piece])
     ensures { AreSystems pieces.now }
 {
     for piece in pieces {

@@ -1,9 +1,12 @@
-//! The call on a space without pieces, and on two statements that share one loop.
+//! The call on a space without pieces, on two statements that share one loop, and on two in loops
+//! of their own.
 
 ghost use Rattle.std.specs.Prelude.{◌≡◌, ◌≤ℤ◌, pos, [], ◌∷◌, length, IfOk};
-ghost use Rattle.ch_codegen.specs.SmallSpace.{assigns, both, first_level, piece};
+ghost use Rattle.ch_codegen.specs.SmallSpace.{assigns, both, first_level, piece, placed, sibling, siblings};
 
 use crate::generate;
+use crate::generator::code_of;
+use crate::systems::known_systems;
 use ch_affine::{Aff, List, Range, System, Text};
 use ch_code::{Bound, Code};
 use ch_nest::{Access, ArrayDecl, Body, Expr, Nest, Sub};
@@ -70,18 +73,16 @@ fn assigns(alloc: Global) -> Result<Body, AllocError>
     })
 }
 
-/// The statement of this number, at the turns from `low` to 1.
-fn piece(alloc: Global, number: u32, low: i64) -> Result<Piece, AllocError>
+/// The statement of this number, at the turns from `low` to 1 of one loop.
+fn placed(alloc: Global, number: u32, low: i64, places: List<u32>) -> Result<Piece, AllocError>
     requires low { pos 0 ≤ℤ low }
     requires high { low ≤ℤ pos 1 }
-    ensures { IfOk result (λ it. it ≡ piece number low) }
+    ensures { IfOk result (λ it. it ≡ placed number low places) }
 {
     let body = assigns(alloc)?;
     let boxes = only(alloc, Range { low, high: 1 })?;
     let form = first_level(alloc)?;
     let origin = only(alloc, form)?;
-    let mut places = only(alloc, 0)?;
-    places.push(number)?;
     Ok(Piece {
         label: Label::Stmt(number),
         body,
@@ -95,6 +96,26 @@ fn piece(alloc: Global, number: u32, low: i64) -> Result<Piece, AllocError>
         origin,
         places,
     })
+}
+
+/// A statement in the loop that both share.
+fn piece(alloc: Global, number: u32, low: i64) -> Result<Piece, AllocError>
+    requires low { pos 0 ≤ℤ low }
+    requires high { low ≤ℤ pos 1 }
+    ensures { IfOk result (λ it. it ≡ piece number low) }
+{
+    let mut places = only(alloc, 0)?;
+    places.push(number)?;
+    placed(alloc, number, low, places)
+}
+
+/// A statement in a loop of its own.
+fn sibling(alloc: Global, number: u32) -> Result<Piece, AllocError>
+    ensures { IfOk result (λ it. it ≡ sibling number) }
+{
+    let mut places = only(alloc, number)?;
+    places.push(0)?;
+    placed(alloc, number, 0, places)
 }
 
 fn both(alloc: Global) -> Result<List<Piece>, AllocError>
@@ -179,6 +200,54 @@ fn statements_share_a_loop(rt: HostRuntime) -> Result<(), Fail> {
                 && is_bound(highs.as_slice(), 1)
                 && are_both(inner.get())
         }
+        _ => false,
+    };
+    assert!(rt; found);
+    Ok(())
+}
+
+fn siblings(alloc: Global) -> Result<List<Piece>, AllocError>
+    ensures { IfOk result (λ pieces. pieces ≡ siblings) }
+{
+    let first = sibling(alloc, 0)?;
+    let second = sibling(alloc, 1)?;
+    let mut pieces = only(alloc, first)?;
+    pieces.push(second)?;
+    Ok(pieces)
+}
+
+fn code_of_siblings(alloc: Global) -> Result<Code, AllocError> {
+    let pieces = siblings(alloc)?;
+    known_systems(pieces.as_slice());
+    code_of(alloc, pieces.as_slice(), &[])
+}
+
+/// Whether it is a loop from 0 to 1 around the statement of this number, which stands free.
+fn is_loop_of(code: &Code, number: u32) -> bool {
+    match code {
+        Code::Loop {
+            level,
+            lows,
+            highs,
+            inner,
+        } => {
+            *level == 1
+                && is_bound(lows.as_slice(), 0)
+                && is_bound(highs.as_slice(), 1)
+                && is_statement(inner.get(), number)
+        }
+        _ => false,
+    }
+}
+
+#[test]
+fn loops_of_other_places_are_not_shared(rt: HostRuntime) -> Result<(), Fail> {
+    let code = code_of_siblings(rt.alloc())?;
+    let found = match &code {
+        Code::Seq(parts) => match parts.as_slice() {
+            [first, second] => is_loop_of(first, 0) && is_loop_of(second, 1),
+            _ => false,
+        },
         _ => false,
     };
     assert!(rt; found);

@@ -1,10 +1,9 @@
 //! Loops between two numbers, and parts one after another.
 
-ghost use Rattle.std.specs.Prelude.{◌≡◌, ◌≤◌, ◌<◌, ◌^◌, ℤ, List, [], ◌∷◌, map, IfOk};
+ghost use Rattle.std.specs.Prelude.{◌≡◌, ◌≤◌, ◌<◌, ◌^◌, [], ◌∷◌, IfOk};
 ghost use Rattle.ch_affine.specs.Affine.{IsAtMost};
 ghost use Rattle.ch_affine.specs.Rows.{IsBox};
-ghost use Rattle.ch_code.specs.Trace.{one_by_one, trace};
-ghost use Rattle.ch_codegen.specs.Made.{bound, loop};
+ghost use Rattle.ch_codegen.specs.Made.{bound, loop, sequence};
 
 use ch_affine::{Aff, Boxed, List, Range};
 use ch_code::{Bound, Code};
@@ -38,7 +37,12 @@ fn number_bounds(alloc: Global, depth: usize, number: i64) -> Result<List<Bound>
 }
 
 /// A loop over the numbers of a range, inside `depth` loops.
-pub fn loop_over(alloc: Global, depth: usize, range: Range, inner: Code) -> Result<Code, AllocError>
+pub(crate) fn loop_over(
+    alloc: Global,
+    depth: usize,
+    range: Range,
+    inner: Code,
+) -> Result<Code, AllocError>
     requires few { depth ≤ 4096 }
     requires range { IsBox range }
     ensures { IfOk result (λ code. code ≡ loop depth range.low range.high inner) }
@@ -55,8 +59,8 @@ pub fn loop_over(alloc: Global, depth: usize, range: Range, inner: Code) -> Resu
 }
 
 /// The parts one after another; a single part stands for itself.
-pub fn in_sequence(mut parts: List<Code>) -> Code
-    ensures { (xs : List ℤ) → trace result xs ≡ one_by_one (map trace parts) xs }
+pub(crate) fn in_sequence(mut parts: List<Code>) -> Code
+    ensures { result ≡ sequence parts }
 {
     if parts.len() != 1 {
         return Code::Seq(parts);

@@ -14,7 +14,10 @@ fn copied_array(alloc: Global, array: &ArrayDecl) -> Result<ArrayDecl, AllocErro
     Ok(ArrayDecl { name, extents })
 }
 
-pub fn copied_arrays(alloc: Global, arrays: &[ArrayDecl]) -> Result<List<ArrayDecl>, AllocError>
+pub(crate) fn copied_arrays(
+    alloc: Global,
+    arrays: &[ArrayDecl],
+) -> Result<List<ArrayDecl>, AllocError>
     ensures { IfOk result (λ copy. copy ≡ arrays.now) }
 {
     let mut copy = List::with_capacity(alloc, arrays.len())?;
@@ -24,7 +27,10 @@ pub fn copied_arrays(alloc: Global, arrays: &[ArrayDecl]) -> Result<List<ArrayDe
     Ok(copy)
 }
 
-pub fn copied_temps(alloc: Global, temps: &[List<u32>]) -> Result<List<List<u32>>, AllocError>
+pub(crate) fn copied_temps(
+    alloc: Global,
+    temps: &[List<u32>],
+) -> Result<List<List<u32>>, AllocError>
     ensures { IfOk result (λ copy. copy ≡ temps.now) }
 {
     let mut copy = List::with_capacity(alloc, temps.len())?;

@@ -1,5 +1,7 @@
 use Rattle.std.proofs.Common.{◌≤◌, ◌+◌, ◌*◌, ◌-◌, length, map, take, drop}
 use Rattle.ch_code.specs.Trace.{trace, one_by_one}
+use Rattle.ch_timed.specs.Members.{Each}
+use Rattle.ch_codegen.specs.Formed.{IsFormed}
 use Rattle.ch_codegen.specs.Parts.{AllPrecede, Lists}
 use Rattle.ch_codegen.proofs.generator.+code.Given as goal
 
@@ -13,6 +15,7 @@ abbrev pub invariant-code_of-loop-start : goal.invariant-code_of-loop-start
 invariant-code_of-loop-start l = record {
   within : l.start ≤ length l.pieces;
   lists : Lists l.ranges (take l.start l.pieces) (one_by_one (map trace l.parts));
+  formed : Each (IsFormed l.ranges l.pieces) l.parts;
   precede : AllPrecede (length l.ranges) (take l.start l.pieces) (drop l.start l.pieces);
 }
 
