@@ -9,10 +9,12 @@ use Rattle.ch_lex.specs.declared.token.Token.{Token}
 use Rattle.ch_nest.specs.Limits.{most_operands}
 use Rattle.ch_nest.specs.declared.exprs.Standing.{Standing}
 use Rattle.ch_nest.specs.declared.exprs.Standing.TheVariants.{Term, Factor, Operand}
+use Rattle.ch_nestparse.specs.declared.ahead.Ending.{Ending}
+use Rattle.ch_nestparse.specs.declared.ahead.Ending.TheVariants as endings
 use Rattle.ch_nestparse.specs.declared.ahead.Look.{Look}
 use Rattle.ch_nestparse.specs.declared.ahead.Opening.{Opening}
 use Rattle.ch_nestparse.specs.declared.ahead.Opening.TheVariants as openings
-use Rattle.ch_nestparse.specs.Expressions.{Counted, Reader, Sort, begins_operand, behind, behind_minus, between_parens, chain, counted_operand, expression, factor, factor_sign, opened, opening, product, star_after, sum, term, term_sign, unary}
+use Rattle.ch_nestparse.specs.Expressions.{Counted, Reader, Sort, begins_operand, behind, behind_minus, between_parens, chain, counted_operand, expression, factor, factor_sign, fits_behind, opened, opening, product, star_after, sum, summand, term, term_sign, unary}
 use Rattle.ch_nestparse.specs.Read.{◌>>=◌, place, seen}
 use Rattle.ch_nestparse.proofs.Posts.{Post, Shrinks, drop_shrinks, post_bind, post_guarded, post_ok, sign_post}
 
@@ -72,20 +74,26 @@ module _ {X : Type 0} (bytes : List ℕ) (sort : Sort X) (Good : Standing → �
         chain_post (Counts Factor left n ts) (λ y. factor_sign (seen bytes y.2)) (factor bytes sort unary_in star) (factor_post star n ts) 256 x
         (h.0, operand_factor left h.0 x.0 h.1, h.2, h.3, h.4))
 
-    term_post : (star : Option ℕ) (n : ℕ) (ts : List Token) (s : Sign) (x : X × ℕ × List Token) → term_sign (seen bytes x.2) ≡ Some s → Counts Term left n ts x
-        → Post (Counts Term left n ts) (term bytes sort unary_in star s x)
+    summand_post : (ending : Ending) (star : Option ℕ) (n : ℕ) (ts : List Token) → Post (Counts Factor left n ts) (summand bytes sort unary_in ending star n ts)
+    unfolding summand
+    summand_post ending star n ts =
+        post_bind (product_post star n ts) (λ x h.
+        post_guarded (fits_behind ending (seen bytes x.2)) P1 (place bytes x.2) (λ _. Ok x) (λ t. post_ok (Counts Factor left n ts) x h))
+
+    term_post : (ending : Ending) (star : Option ℕ) (n : ℕ) (ts : List Token) (s : Sign) (x : X × ℕ × List Token) → term_sign (seen bytes x.2) ≡ Some s → Counts Term left n ts x
+        → Post (Counts Term left n ts) (term bytes sort unary_in ending star s x)
     unfolding term
-    term_post star n ts s x e h =
-        post_bind (product_post star x.1 (drop 1 x.2)) (λ y g.
+    term_post ending star n ts s x e h =
+        post_bind (summand_post ending star x.1 (drop 1 x.2)) (λ y g.
         post_bind (terms_good left h.0 g.0 (place bytes x.2) (seen bytes x.2) s x.0 y.0 e h.1 g.1) (λ z k.
         let d = drop_shrinks x.2 in
         post_ok (Counts Term left n ts) (z, y.1, y.2) (h.0 + g.0, k, omega (arith, h.2, g.2), g.3, omega (arith, d, h.4, g.4))))
 
-    sum_post : (star : Option ℕ) (n : ℕ) (ts : List Token) → Post (Counts Term left n ts) (sum bytes sort unary_in star n ts)
+    sum_post : (ending : Ending) (star : Option ℕ) (n : ℕ) (ts : List Token) → Post (Counts Term left n ts) (sum bytes sort unary_in ending star n ts)
     unfolding sum
-    sum_post star n ts =
-        post_bind (product_post star n ts) (λ x h.
-        chain_post (Counts Term left n ts) (λ y. term_sign (seen bytes y.2)) (term bytes sort unary_in star) (term_post star n ts) 256 x
+    sum_post ending star n ts =
+        post_bind (summand_post ending star n ts) (λ x h.
+        chain_post (Counts Term left n ts) (λ y. term_sign (seen bytes y.2)) (term bytes sort unary_in ending star) (term_post ending star n ts) 256 x
         (h.0, factor_term left h.0 x.0 h.1, h.2, h.3, h.4))
 
     minus_post : (star : Option ℕ) (n : ℕ) (ts : List Token) → Post (Counts Operand (suc left) n ts) (behind_minus bytes sort unary_in star n ts)
@@ -99,7 +107,7 @@ module _ {X : Type 0} (bytes : List ℕ) (sort : Sort X) (Good : Standing → �
     parens_post : (star : Option ℕ) (n : ℕ) (ts : List Token) → Post (Counts Operand (suc left) n ts) (between_parens bytes sort unary_in star n ts)
     unfolding between_parens
     parens_post star n ts =
-        post_bind (sum_post star n (drop 1 ts)) (λ x h.
+        post_bind (sum_post endings.Paren star n (drop 1 ts)) (λ x h.
         post_bind (sign_post bytes P1 signs.RightParen x.2) (λ rest g.
         let d = drop_shrinks ts in
         post_ok (Counts Operand (suc left) n ts) (x.0, x.1, rest) (h.0, parens_good left h.0 x.0 h.1, h.2, h.3, omega (arith, d, g, h.4))))
@@ -117,7 +125,7 @@ module _ {X : Type 0} (bytes : List ℕ) (sort : Sort X) (Good : Standing → �
       (counted_post (suc left) star n ts)
 
   -- a whole expression
-  pub expression_post : (left : ℕ) (ts : List Token) → Post (λ r. (m : ℕ) × Good Term left m r.0 × (m ≤ 256) × Shrinks ts r.1) (expression bytes sort left ts)
-  expression_post left ts =
-      post_bind (sum_post left (unary bytes sort left) (unary_post left) None 0 ts) (λ x h.
+  pub expression_post : (left : ℕ) (ending : Ending) (ts : List Token) → Post (λ r. (m : ℕ) × Good Term left m r.0 × (m ≤ 256) × Shrinks ts r.1) (expression bytes sort left ending ts)
+  expression_post left ending ts =
+      post_bind (sum_post left (unary bytes sort left) (unary_post left) ending None 0 ts) (λ x h.
       post_ok (λ r. (m : ℕ) × Good Term left m r.0 × (m ≤ 256) × Shrinks ts r.1) (x.0, x.2) (h.0, h.1, omega (arith, h.2, h.3), h.4))

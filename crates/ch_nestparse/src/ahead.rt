@@ -32,6 +32,16 @@ pub enum Opening {
     Operand,
 }
 
+/// Which signs end an expression, by where it stands: between parentheses, as a subscript, among the forms of `max` or `min`,
+/// or before a semicolon.
+#[derive(Clone, Copy, Debug)]
+pub enum Ending {
+    Paren,
+    Bracket,
+    Listed,
+    Semicolon,
+}
+
 /// A refusal without a number, at byte `at`.
 pub fn refused(code: Code2, at: u32) -> ParseError
     ensures { result ≡ Refused code at (pos 0) }

@@ -7,7 +7,7 @@ ghost use Rattle.ch_nestparse.specs.Heads.{bounded, ends_at, head_at, high_at, l
 ghost use Rattle.ch_nestparse.specs.Read.{find_name, repeated};
 
 use crate::affine::form;
-use crate::ahead::{Look, after, begins, name, next_is, place, refused, seen, sign};
+use crate::ahead::{Ending, Look, after, begins, name, next_is, place, refused, seen, sign};
 use crate::scope::{Names, fresh};
 use ch_affine::{Aff, List, Range};
 use ch_lex::{Code2, Keyword, ParseError, Sign, Token};
@@ -44,7 +44,7 @@ fn more<'a>(
     ensures fits { IfOk result (λ r. IsTrue (list_all (form_fits levels) r.0)) }
 {
     let mut found = found;
-    let (form, rest) = form(alloc, bytes, names, levels, MOST_NESTING, after(tokens))?;
+    let (form, rest) = form(alloc, bytes, names, levels, MOST_NESTING, Ending::Listed, after(tokens))?;
     found.push(form)?;
     Ok((found, rest))
 }
@@ -93,7 +93,7 @@ fn single<'a>(
     ensures fits { IfOk result (λ r. IsTrue (list_all (form_fits levels) r.0)) }
 {
     let mut forms = List::new(alloc);
-    let (form, rest) = form(alloc, bytes, names, levels, MOST_NESTING, tokens)?;
+    let (form, rest) = form(alloc, bytes, names, levels, MOST_NESTING, Ending::Semicolon, tokens)?;
     forms.push(form)?;
     Ok((forms, rest))
 }
@@ -114,7 +114,7 @@ fn several<'a>(
 {
     let rest = sign(bytes, Code2::P1, Sign::LeftParen, tokens)?;
     let mut forms = List::new(alloc);
-    let (first, rest) = form(alloc, bytes, names, levels, MOST_NESTING, rest)?;
+    let (first, rest) = form(alloc, bytes, names, levels, MOST_NESTING, Ending::Listed, rest)?;
     forms.push(first)?;
     let (forms, rest) = more_forms(alloc, bytes, names, levels, forms, rest)?;
     if next_is(bytes, Sign::Comma, rest) {

@@ -19,7 +19,7 @@ mod sides;
 mod tests;
 
 pub use ahead::{
-    Look, Opening, after, begins, integer, keyword, name, next_is, number, place, refused, seen,
+    Ending, Look, Opening, after, begins, integer, keyword, name, next_is, number, place, refused, seen,
     sign, text_at,
 };
 pub use declarations::Declared;
