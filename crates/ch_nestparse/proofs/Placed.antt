@@ -566,7 +566,6 @@ module _ (bytes : List ℕ) where
       (loop_placed (item_at bytes deeper) (item_placed deeper) names boxes (place bytes ts) found (drop 1 ts) (inside_place ts h) (inside_drop ts h))
       (assign_placed names (length boxes) found ts h)
 
-
   -- a section
 
   inside_take : (n : ℕ) (ts : List Token) → Inside ts → Inside (take n ts)

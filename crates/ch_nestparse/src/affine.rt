@@ -1,18 +1,16 @@
-ghost use Rattle.std.specs.Prelude.{◌≡◌, ◌<◌, ◌≤◌, ◌^◌, length, IfOk, IsTrue};
+ghost use Rattle.std.specs.Prelude.{◌≡◌, ℕ, ◌<◌, ◌≤◌, ◌^◌, length, IfOk, IsTrue};
 ghost use Rattle.ch_nest.specs.Shape.{form_fits};
 ghost use Rattle.ch_nestparse.specs.Expressions.{begins_operand, behind_minus, between_parens, closes, counted_operand, factor, factor_sign, fits_behind, opening, product, star_after, sum, summand, term, term_sign, unary};
 ghost use Rattle.ch_nestparse.specs.Forms.{form_at, operand_part, parts};
 ghost use Rattle.ch_nestparse.specs.Gives.{Gives};
 
 use crate::ahead::{Ending, Look, Opening, after, next_is, place, refused, seen, sign, text_at};
+use crate::limits::MOST_OPERANDS;
 use crate::part::{Part, joined_parts, named_part, negated, number_part};
 use crate::scope::{Named, Names};
 use ch_affine::Aff;
 use ch_lex::{Code2, ParseError, Sign, Token};
 use std::alloc::Global;
-
-/// Numbers, names and accesses of one expression.
-pub(crate) const MOST_OPERANDS: u32 = 256;
 
 /// The next sign, where it goes on with a product.
 pub(crate) fn factor_sign(look: Look) -> Option<Sign>
@@ -117,16 +115,14 @@ fn operand<'a>(
     bytes: &[u8],
     names: &Names,
     levels: u32,
-    left: u32,
     star: Option<u32>,
     tokens: &'a [Token],
 ) -> Result<(Part, &'a [Token]), ParseError>
     requires short { length bytes.now < 2 ^ 32 }
     requires levels { levels ≤ 6 }
-    ensures exact { Gives (λ r. (r.0, r.1.now)) result ((parts bytes.now names.now levels).operand left star tokens.now) }
+    ensures exact { (left : ℕ) → Gives (λ r. (r.0, r.1.now)) result ((parts bytes.now names.now levels).operand left star tokens.now) }
     ensures fits { IfOk result (λ r. IsTrue (form_fits levels r.0.form)) }
 {
-    let _ = left;
     let rest = after(tokens);
     let part = operand_part(
         alloc,
@@ -160,7 +156,7 @@ fn counted_operand<'a>(
     if !begins_operand(seen(bytes, tokens)) || count >= MOST_OPERANDS {
         return Err(refused(Code2::P1, place(bytes, tokens)));
     }
-    let (part, rest) = operand(alloc, bytes, names, levels, left, star, tokens)?;
+    let (part, rest) = operand(alloc, bytes, names, levels, star, tokens)?;
     Ok((part, count + 1, rest))
 }
 
@@ -208,7 +204,17 @@ fn between_parens<'a>(
     ensures fits { IfOk result (λ r. IsTrue (form_fits levels r.0.form)) }
 {
     let inside = after(tokens);
-    let (part, count, rest) = sum(alloc, bytes, names, levels, left, Ending::Paren, star, count, inside)?;
+    let (part, count, rest) = sum(
+        alloc,
+        bytes,
+        names,
+        levels,
+        left,
+        Ending::Paren,
+        star,
+        count,
+        inside,
+    )?;
     let rest = sign(bytes, Code2::P1, Sign::RightParen, rest)?;
     Ok((part, count, rest))
 }

@@ -14,13 +14,11 @@ use crate::accesses::accesses;
 use crate::ahead::{keyword, name, sign};
 use crate::declarations::{Declared, arrays, lets};
 use crate::items::items;
+use crate::limits::DEEPEST;
 use ch_affine::{List, Text};
 use ch_lex::{Code2, Keyword, ParseError, Sign, Token};
 use ch_nest::{ArrayDecl, Fill, Item, Nest};
 use std::alloc::Global;
-
-/// Loops around one another.
-const DEEPEST: u32 = 6;
 
 /// A program: its name, its nest, how each of its arrays starts, the byte at which each of its accesses begins, in the order
 /// of its text, and the number of the first token behind it.

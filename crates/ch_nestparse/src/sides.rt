@@ -1,22 +1,18 @@
-ghost use Rattle.std.specs.Prelude.{◌≡◌, ℕ, ◌<◌, ◌≤◌, ◌^◌, length, IfOk};
+ghost use Rattle.std.specs.Prelude.{◌≡◌, Option, ℕ, ◌<◌, ◌≤◌, ◌^◌, length, IfOk};
 ghost use Rattle.ch_nest.specs.declared.nest.Expr.TheVariants as exprs;
 ghost use Rattle.ch_nestparse.specs.Expressions.{behind_minus, between_parens, counted_operand, factor, product, star_after, sum, summand, term, unary};
 ghost use Rattle.ch_nestparse.specs.Gives.{Gives};
 ghost use Rattle.ch_nestparse.specs.Rights.{joined_right, right_at, rights};
 
-use crate::affine::{
-    MOST_OPERANDS, begins_operand, factor_sign, fits_behind, opening, star_after, term_sign,
-};
+use crate::affine::{begins_operand, factor_sign, fits_behind, opening, star_after, term_sign};
 use crate::ahead::{Ending, Opening, after, next_is, place, refused, seen, sign, text_at};
+use crate::limits::{MOST_NESTING, MOST_OPERANDS};
 use crate::rights::operand_right;
 use crate::scope::Names;
 use ch_affine::Boxed;
 use ch_lex::{Code2, ParseError, Sign, Token};
 use ch_nest::Expr;
 use std::alloc::{AllocError, Global};
-
-/// Parentheses and minus signs around one another.
-const MOST_NESTING: u32 = 32;
 
 fn negated(alloc: Global, x: Expr) -> Result<Expr, AllocError>
     ensures { IfOk result (λ e. e ≡ exprs.Neg x) }
@@ -46,14 +42,12 @@ fn operand<'a>(
     names: &Names,
     levels: u32,
     left: u32,
-    star: Option<u32>,
     tokens: &'a [Token],
 ) -> Result<(Expr, &'a [Token]), ParseError>
     requires short { length bytes.now < 2 ^ 32 }
     requires levels { levels ≤ 6 }
-    ensures { Gives (λ r. (r.0, r.1.now)) result ((rights bytes.now names.now levels).operand left star tokens.now) }
+    ensures { (star : Option ℕ) → Gives (λ r. (r.0, r.1.now)) result ((rights bytes.now names.now levels).operand left star tokens.now) }
 {
-    let _ = star;
     let rest = after(tokens);
     operand_right(
         alloc,
@@ -88,7 +82,7 @@ fn counted_operand<'a>(
     if !begins_operand(seen(bytes, tokens)) || count >= MOST_OPERANDS {
         return Err(refused(Code2::P1, place(bytes, tokens)));
     }
-    let (part, rest) = operand(alloc, bytes, names, levels, left, star, tokens)?;
+    let (part, rest) = operand(alloc, bytes, names, levels, left, tokens)?;
     Ok((part, count + 1, rest))
 }
 
@@ -133,7 +127,17 @@ fn between_parens<'a>(
     ensures { Gives (λ r. (r.0, r.1, r.2.now)) result (between_parens bytes.now (rights bytes.now names.now levels) (unary bytes.now (rights bytes.now names.now levels) left) star count tokens.now) }
 {
     let inside = after(tokens);
-    let (part, count, rest) = sum(alloc, bytes, names, levels, left, Ending::Paren, star, count, inside)?;
+    let (part, count, rest) = sum(
+        alloc,
+        bytes,
+        names,
+        levels,
+        left,
+        Ending::Paren,
+        star,
+        count,
+        inside,
+    )?;
     let rest = sign(bytes, Code2::P1, Sign::RightParen, rest)?;
     Ok((part, count, rest))
 }
