@@ -36,13 +36,13 @@ use Rattle.ch_nestparse.specs.declared.scope.Named.TheVariants.{Let, Array, Iter
 use Rattle.ch_nestparse.specs.Accesses.{accesses_in, begins_access, with_place}
 use Rattle.ch_nestparse.specs.Declarations.{array_at, arrays_at, begins_array, begins_let, extent_at, extent_if, extents_at, fill_at, fitting, is_extent, let_at, lets_at, no_arrays, opens_bracket}
 use Rattle.ch_nestparse.specs.Expressions.{Counted, Reader, Sort, begins_operand, behind, behind_minus, between_parens, chain, counted_operand, expression, factor, factor_sign, fits_behind, opened, opening, product, star_after, step, sum, summand, term, term_sign, unary}
-use Rattle.ch_nestparse.specs.Forms.{access_part, form_at, iterator_part, joined_parts, limit, named_part, narrow, narrow_if, negated, number_part, number_part_if, operand_part, parts, plain_part, times}
+use Rattle.ch_nestparse.specs.Forms.{form_at, iterator_part, joined_parts, limit, named_part, narrow, narrow_if, number_part, number_part_if, operand_part, parts, times}
 use Rattle.ch_nestparse.specs.Gives.{Fails}
 use Rattle.ch_nestparse.specs.Heads.{bounded, bounded_if, ends_at, head_at, high_at, last_of, low_at, more_at, next_is_comma, same_name_at, several_at, single_at, step_at, strict_if}
 use Rattle.ch_nestparse.specs.Inside.{IsWithin}
 use Rattle.ch_nestparse.specs.Items.{Items, assign_at, body_at, is_more, item_at, items_at, loop_at, written}
 use Rattle.ch_nestparse.specs.Read.{◌>>=◌, Names, Read, begins, choose, find_name, fresh_at, guarded, integer_at, is_new, keyword_at, name_at, name_if, next_is, number_at, number_if, place, refused, repeated, seen, sign_at, text_at}
-use Rattle.ch_nestparse.specs.Rights.{access_at, access_right, always, joined_right, named_right, operand_right, plain_right, right_at, rights, sub_at}
+use Rattle.ch_nestparse.specs.Rights.{access_at, always, joined_right, named_right, operand_right, right_at, rights, sub_at}
 use Rattle.ch_nestparse.specs.Sections.{Section, before, section_at}
 use Rattle.ch_nestparse.proofs.Posts.{Post, post_bind, post_err, post_ok}
 

@@ -1,5 +1,5 @@
 -- The accesses that are told of a section are those of its nest, in the order of the text.
-use Rattle.std.proofs.Common.{◌≡◌, ℕ, zero, suc, ◌+◌, ◌-◌, ◌≤◌, ◌<◌, Bool, true, false, cond, ◌&&◌, nat_le, List, [], ◌∷◌, ◌++◌, length, length-append, take, drop, Option, Some, None, Ok, refl, sym, ap, ◌∙◌, subst, arith}
+use Rattle.std.proofs.Common.{◌≡◌, ℕ, zero, suc, ◌+◌, ◌-◌, ◌≤◌, ◌<◌, Bool, true, false, cond, ◌&&◌, List, [], ◌∷◌, ◌++◌, length, length-append, take, drop, Option, Some, None, Ok, refl, sym, ap, ◌∙◌, subst, arith}
 use Rattle.std.specs.Bool.{IsTrue}
 use Rattle.std.specs.Str.{bytes_eq}
 use Rattle.std.proofs.lemmas.Bool.{and_parts, and_from, false≢true, leb-true}
@@ -13,21 +13,19 @@ use Rattle.ch_nest.specs.Arrays.{cells_in}
 use Rattle.ch_nest.specs.Limits.{deepest}
 use Rattle.ch_nest.specs.declared.nest.Access.{Access}
 use Rattle.ch_nest.specs.declared.nest.ArrayDecl.{ArrayDecl}
-use Rattle.ch_nestparse.specs.declared.ahead.Look.{Look}
-use Rattle.ch_nestparse.specs.declared.ahead.Look.TheVariants as looks
 use Rattle.ch_nestparse.specs.declared.declarations.Declared.{Declared}
 use Rattle.ch_nestparse.specs.declared.scope.Named.{Named}
 use Rattle.ch_nestparse.specs.declared.scope.Named.TheVariants.{Let, Array, Iterator}
-use Rattle.ch_nestparse.specs.Accesses.{accesses_in, begins_access, is_name, with_place}
+use Rattle.ch_nestparse.specs.Accesses.{accesses_in, is_name, with_place}
 use Rattle.ch_nestparse.specs.Declarations.{array_at, arrays_at, begins_array, begins_let, let_at, lets_at, no_arrays}
 use Rattle.ch_nestparse.specs.Items.{item_at}
-use Rattle.ch_nestparse.specs.Read.{Names, find_name, is_sign, next_is, place, seen, text_at}
+use Rattle.ch_nestparse.specs.Read.{Names, find_name, next_is, place, seen, text_at}
 use Rattle.ch_nestparse.specs.Sections.{Section, before, section_at}
 use Rattle.ch_nestparse.specs.TextOrder.{are_named, has_word, name_of, text_accesses}
 use Rattle.ch_nestparse.proofs.Apart.{same_text}
 use Rattle.ch_nestparse.proofs.DeclaredFit.{extents_post, fill_post}
 use Rattle.ch_nestparse.proofs.Posts.{Post, fresh_post, integer_post, keyword_post, name_post, post_bind, post_ok, repeated_post, sign_post}
-use Rattle.ch_nestparse.proofs.Told.{AllStand, More, Paired, Told, dropped, is_some_token, item_tells, items_tell, sign_unnamed, told_cut, unnamed}
+use Rattle.ch_nestparse.proofs.Told.{AllStand, Paired, dropped, is_some_token, item_tells, items_tell, sign_unnamed, told_cut}
 
 -- what names stand for
 

@@ -1,20 +1,18 @@
 -- The accesses that are told of some tokens are those of what was read from them.
-use Rattle.std.proofs.Common.{◌≡◌, ℕ, zero, suc, ◌+◌, ◌-◌, ◌≤◌, ℤ, pos, Bool, true, false, not, ◌&&◌, ◌==◌, nat_lt, cond, List, [], ◌∷◌, ◌++◌, length, map, take, drop, append_assoc, Option, Some, None, Result, Ok, Err, refl, sym, ap, ◌∙◌, subst, arith}
+use Rattle.std.proofs.Common.{◌≡◌, ℕ, zero, suc, ◌+◌, ◌-◌, ◌≤◌, ℤ, pos, Bool, true, false, not, ◌&&◌, ◌==◌, nat_lt, cond, List, [], ◌∷◌, ◌++◌, length, map, take, drop, append_assoc, Option, Some, None, Ok, refl, sym, ap, ◌∙◌, arith}
 use Rattle.std.specs.Str.{bytes_eq}
 use Rattle.std.proofs.lemmas.Bool.{and_parts, eqb-true, false≢true}
-use Rattle.std.proofs.lemmas.List.{append-nil, append_cancel_right, drop-drop}
+use Rattle.std.proofs.lemmas.List.{append-nil, drop-drop}
 use Rattle.ch_affine.specs.Form.{Form}
 use Rattle.ch_affine.specs.declared.system.Range.{Range}
 use Rattle.ch_lex.specs.declared.error.Code2.{Code2}
-use Rattle.ch_lex.specs.declared.error.Code2.TheVariants.{P1, P2, P5, P6}
-use Rattle.ch_lex.specs.declared.error.ParseError.{ParseError}
+use Rattle.ch_lex.specs.declared.error.Code2.TheVariants.{P1, P5, P6}
 use Rattle.ch_lex.specs.declared.keyword.Keyword.{Keyword}
 use Rattle.ch_lex.specs.declared.keyword.Keyword.TheVariants as words
 use Rattle.ch_lex.specs.declared.token.Sign.{Sign}
 use Rattle.ch_lex.specs.declared.token.Sign.TheVariants as signs
 use Rattle.ch_lex.specs.declared.token.Token.{Token}
-use Rattle.ch_nest.specs.Limits.{most_nesting, most_operands, most_statements, deepest}
-use Rattle.ch_nest.specs.Shape.{high_end, low_end}
+use Rattle.ch_nest.specs.Limits.{most_nesting, most_operands, most_statements}
 use Rattle.ch_nest.specs.declared.nest.Access.{Access}
 use Rattle.ch_nest.specs.declared.nest.Body.{Body}
 use Rattle.ch_nest.specs.declared.nest.Expr.{Expr}
@@ -28,22 +26,20 @@ use Rattle.ch_nestparse.specs.declared.ahead.Look.{Look}
 use Rattle.ch_nestparse.specs.declared.ahead.Look.TheVariants as looks
 use Rattle.ch_nestparse.specs.declared.ahead.Opening.{Opening}
 use Rattle.ch_nestparse.specs.declared.ahead.Opening.TheVariants as openings
-use Rattle.ch_nestparse.specs.declared.part.Part.{Part}
 use Rattle.ch_nestparse.specs.declared.scope.Named.{Named}
 use Rattle.ch_nestparse.specs.declared.scope.Named.TheVariants.{Let, Array, Iterator}
 use Rattle.ch_nestparse.specs.Accesses.{accesses_in, begins_access, is_name, with_place}
-use Rattle.ch_nestparse.specs.Expressions.{Counted, Reader, Sort, begins_operand, behind_minus, between_parens, chain, counted_operand, expression, factor, factor_sign, fits_behind, opened, opening, product, star_after, step, sum, summand, term, term_sign, unary}
-use Rattle.ch_nestparse.specs.Forms.{form_at, joined_parts, named_part, negated, operand_part, parts}
-use Rattle.ch_nestparse.specs.Heads.{bounded, ends_at, head_at, high_at, last_of, low_at, more_at, next_is_comma, same_name_at, several_at, single_at, step_at, strict_if}
+use Rattle.ch_nestparse.specs.Expressions.{Counted, Reader, Sort, begins_operand, behind_minus, between_parens, counted_operand, expression, factor, factor_sign, fits_behind, opened, opening, product, star_after, step, sum, summand, term, term_sign, unary}
+use Rattle.ch_nestparse.specs.Forms.{form_at, named_part, operand_part, parts}
+use Rattle.ch_nestparse.specs.Heads.{ends_at, head_at, high_at, last_of, low_at, more_at, next_is_comma, same_name_at, several_at, single_at, step_at, strict_if}
 use Rattle.ch_nestparse.specs.Items.{Items, assign_at, body_at, is_more, item_at, items_at, loop_at, written}
-use Rattle.ch_nestparse.specs.Read.{◌>>=◌, Names, Read, begins, choose, find_name, fresh_at, guarded, is_keyword, is_new, is_sign, kind_look, keyword_at, name_at, name_if, next_is, place, refused, repeated, seen, sign_at, sign_index, text_at, text_of}
-use Rattle.ch_nestparse.specs.Rights.{access_at, access_right, always, joined_right, named_right, operand_right, plain_right, right_at, rights, sub_at}
-use Rattle.ch_nestparse.specs.Sections.{before}
+use Rattle.ch_nestparse.specs.Read.{◌>>=◌, Names, Read, begins, find_name, fresh_at, is_keyword, is_new, is_sign, kind_look, name_at, name_if, next_is, place, refused, repeated, seen, sign_at, sign_index, text_at, text_of}
+use Rattle.ch_nestparse.specs.Rights.{access_at, always, joined_right, named_right, operand_right, right_at, rights, sub_at}
 use Rattle.ch_nestparse.specs.TextOrder.{accesses_step, joined, reads, reads_step, text_accesses}
 use Rattle.ch_nestparse.proofs.ItemsFit.{fold_assign, fold_loop}
 use Rattle.ch_nestparse.proofs.Nesting.{fold_add, fold_iter, fold_mul, fold_neg, fold_number, fold_read, fold_sub}
-use Rattle.ch_nestparse.proofs.Posts.{Post, post_bind, post_choose, post_err, post_guarded, post_ok, repeated_post}
-use Rattle.ch_nestparse.proofs.Spelled.{chain_post, post_opened}
+use Rattle.ch_nestparse.proofs.Posts.{Post, post_bind, post_choose, post_err, post_guarded, post_ok}
+use Rattle.ch_nestparse.proofs.Spelled.{chain_post}
 
 -- looks
 

@@ -3,7 +3,6 @@ use Rattle.std.specs.Prelude.{ℕ, zero, suc, Bool, true, false, ◌&&◌, List,
 use Rattle.std.specs.Str.{bytes_eq}
 use Rattle.ch_nest.specs.declared.nest.Access.{Access}
 use Rattle.ch_nest.specs.declared.nest.ArrayDecl.{ArrayDecl}
-use Rattle.ch_nest.specs.declared.nest.Body.{Body}
 use Rattle.ch_nest.specs.declared.nest.Expr.{Expr}
 use Rattle.ch_nest.specs.declared.nest.Expr.TheOpen.{Expr-F}
 use Rattle.ch_nest.specs.declared.nest.Expr.TheFolds.{fold-Expr}
