@@ -79,7 +79,7 @@ extent_post bytes names array used found ts h =
     post_ok (λ r. (length r.0 ≡ length found + 1) × (list_all (nat_le 1) r.0 ≡ true) × (used + cells_in r.0 ≤ most_cells) × Shrinks ts r.1) (found ++ fits ∷ [], rest)
     (length-append found (fits ∷ []), rw (list_all-append, h, c.0) refl, omega (arith, p, c.1), omega (arith, a, b, d, g))))))
 
-extents_post : (bytes : List ℕ) (names : Names) (array used : ℕ) (ts : List Token)
+pub extents_post : (bytes : List ℕ) (names : Names) (array used : ℕ) (ts : List Token)
     → Post (λ r. (nat_le 1 (length r.0) ≡ true) × (nat_le (length r.0) most_dimensions ≡ true) × (list_all (nat_le 1) r.0 ≡ true) × (used + cells_in r.0 ≤ most_cells) × Shrinks ts r.1)
     (extents_at bytes names array used ts)
 unfolding extents_at
@@ -94,7 +94,7 @@ extents_post bytes names array used ts =
 
 -- arrays
 
-fill_post : (bytes : List ℕ) (ts : List Token) → Post (λ r. Shrinks ts r.1) (fill_at bytes ts)
+pub fill_post : (bytes : List ℕ) (ts : List Token) → Post (λ r. Shrinks ts r.1) (fill_at bytes ts)
 unfolding fill_at
 fill_post bytes ts =
     post_bind (sign_post bytes P1 signs.Equals ts) (λ equals a.

@@ -15,6 +15,7 @@ use Rattle.ch_lex.specs.declared.token.Sign.TheVariants as signs
 use Rattle.ch_lex.specs.declared.token.Token.{Token}
 use Rattle.ch_nest.specs.Limits.{most_affine, most_forms, most_nesting}
 use Rattle.ch_nest.specs.Shape.{are_few, box_of, coefs_fit, constant_fits, form_fits, high_end, highs_fit, is_at_most, is_small, low_end, lows_fit, raised_fits}
+use Rattle.ch_nestparse.specs.declared.ahead.Ending.TheVariants as endings
 use Rattle.ch_nestparse.specs.declared.ahead.Look.{Look}
 use Rattle.ch_nestparse.specs.declared.ahead.Look.TheVariants as looks
 use Rattle.ch_nestparse.specs.declared.heads.Ends.{Ends}
@@ -32,7 +33,7 @@ more_post : (bytes : List ℕ) (names : Names) (levels : ℕ) (found : List Form
     → Post (λ r. (length r.0 ≡ length found + 1) × (list_all (form_fits levels) r.0 ≡ true) × Shrinks ts r.1) (more_at bytes names levels found ts)
 unfolding more_at
 more_post bytes names levels found ts h =
-    post_bind (form_post bytes names levels most_nesting (drop 1 ts)) (λ form a.
+    post_bind (form_post bytes names levels most_nesting endings.Listed (drop 1 ts)) (λ form a.
     let d = drop_shrinks ts in
     post_ok (λ r. (length r.0 ≡ length found + 1) × (list_all (form_fits levels) r.0 ≡ true) × Shrinks ts r.1) (found ++ form.0 ∷ [], form.1)
     (length-append found (form.0 ∷ []), rw (list_all-append, h, a.0) refl, omega (arith, d, a.1)))
@@ -44,7 +45,7 @@ several_post : (bytes : List ℕ) (names : Names) (levels : ℕ) (ts : List Toke
 unfolding several_at
 several_post bytes names levels ts =
     post_bind (sign_post bytes P1 signs.LeftParen ts) (λ inside a.
-    post_bind (form_post bytes names levels most_nesting inside) (λ first b.
+    post_bind (form_post bytes names levels most_nesting endings.Listed inside) (λ first b.
     post_bind (repeated_post (λ k found us. (length found + k ≡ 4) × (1 ≤ length found) × (list_all (form_fits levels) found ≡ true) × Shrinks first.1 us)
     (next_is_comma bytes) (more_at bytes names levels)
     (λ k found us h x f. let g = more_post bytes names levels found us h.2 x f in (omega (arith, g.0, h.0), omega (arith, g.0), g.1, omega (arith, g.2, h.3)))
@@ -59,7 +60,7 @@ several_post bytes names levels ts =
 single_post : (bytes : List ℕ) (names : Names) (levels : ℕ) (ts : List Token) → Post (Forms levels ts) (single_at bytes names levels ts)
 unfolding single_at
 single_post bytes names levels ts =
-    post_bind (form_post bytes names levels most_nesting ts) (λ form a.
+    post_bind (form_post bytes names levels most_nesting endings.Semicolon ts) (λ form a.
     post_ok (Forms levels ts) (form.0 ∷ [], form.1) (few_forms (form.0 ∷ []) (omega arith) (omega arith), and_from (form_fits levels form.0) true a.0 refl, a.1))
 
 ends_post : (bytes : List ℕ) (word : Keyword) (names : Names) (levels : ℕ) (ts : List Token) → Post (Forms levels ts) (ends_at bytes word names levels ts)

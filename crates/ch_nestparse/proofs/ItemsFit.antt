@@ -28,10 +28,10 @@ use Rattle.ch_nestparse.proofs.Meant.{AllMeant, IsMeant, meant_deeper, meant_pus
 use Rattle.ch_nestparse.proofs.Posts.{Post, Shrinks, drop_shrinks, name_post, post_bind, post_choose, post_err, post_guarded, post_ok, repeated_post, sign_post}
 use Rattle.ch_nestparse.proofs.RightsFit.{access_post, right_post}
 
-fold_assign : {C : Type 0} (step : Item-F C → C) (label : ℕ) (body : Body) → fold-Item C step (Assign label body) ≡ step (Item-F.Assign label body)
+pub fold_assign : {C : Type 0} (step : Item-F C → C) (label : ℕ) (body : Body) → fold-Item C step (Assign label body) ≡ step (Item-F.Assign label body)
 fold_assign {C = C} step label body = ap (fold-Item C step) (sym (rolls-Assign label body)) ∙ fold-roll-Item C step _
 
-fold_loop : {C : Type 0} (step : Item-F C → C) (lows highs : List Form) (items : List Item)
+pub fold_loop : {C : Type 0} (step : Item-F C → C) (lows highs : List Form) (items : List Item)
     → fold-Item C step (Loop lows highs items) ≡ step (Item-F.Loop lows highs (map (fold-Item C step) items))
 fold_loop {C = C} step lows highs items = ap (fold-Item C step) (sym (rolls-Loop lows highs items)) ∙ fold-roll-Item C step _
 

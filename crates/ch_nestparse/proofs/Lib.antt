@@ -13,6 +13,7 @@ pub mod Meant
 pub mod Narrow
 pub mod Nesting
 pub mod Nested
+pub mod Placed
 pub mod Places
 pub mod Posts
 pub mod RightsFit
@@ -21,3 +22,5 @@ pub mod Spelled
 pub mod Spellings
 pub mod Repeats
 pub mod Sums
+pub mod TextTold
+pub mod Told

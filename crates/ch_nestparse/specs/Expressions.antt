@@ -7,6 +7,8 @@ use Rattle.ch_lex.specs.declared.token.Sign.{Sign}
 use Rattle.ch_lex.specs.declared.token.Sign.TheVariants as signs
 use Rattle.ch_lex.specs.declared.token.Token.{Token}
 use Rattle.ch_nest.specs.Limits.{most_operands}
+use Rattle.ch_nestparse.specs.declared.ahead.Ending.{Ending}
+use Rattle.ch_nestparse.specs.declared.ahead.Ending.TheVariants as endings
 use Rattle.ch_nestparse.specs.declared.ahead.Look.{Look}
 use Rattle.ch_nestparse.specs.declared.ahead.Look.TheVariants as looks
 use Rattle.ch_nestparse.specs.declared.ahead.Opening.{Opening}
@@ -36,6 +38,22 @@ abbrev pub term_sign : Look → Option Sign
 term_sign (looks.Sign signs.Plus) = Some signs.Plus
 term_sign (looks.Sign signs.Minus) = Some signs.Minus
 term_sign other = None
+
+-- the sign ends an expression that stands there
+abbrev pub closes : Ending → Sign → Bool
+closes endings.Paren signs.RightParen = true
+closes endings.Bracket signs.RightBracket = true
+closes endings.Listed signs.Comma = true
+closes endings.Listed signs.RightParen = true
+closes endings.Semicolon signs.Semicolon = true
+closes other sign = false
+
+-- what may stand behind a part of a sum: a sign that goes on with the sum, or one that ends it
+abbrev pub fits_behind : Ending → Look → Bool
+fits_behind ending (looks.Sign signs.Plus) = true
+fits_behind ending (looks.Sign signs.Minus) = true
+fits_behind ending (looks.Sign s) = closes ending s
+fits_behind ending other = false
 
 -- what is read where a sign was found, and where none was
 abbrev pub behind : {A : Type 0} → Option Sign → A → (Sign → A) → A
@@ -70,14 +88,18 @@ more_factors bytes sort unary star k x = chain (λ y. factor_sign (seen bytes y.
 unfoldable pub product : {X : Type 0} → List ℕ → Sort X → Reader X → Reader X
 product bytes sort unary star n ts = unary star n ts >>= more_factors bytes sort unary star most_operands
 
-unfoldable pub term : {X : Type 0} → List ℕ → Sort X → Reader X → Option ℕ → Sign → X × ℕ × List Token → Counted X
-term bytes sort unary star s x = step bytes (λ y at. product bytes sort unary star) sort.joined s x
+-- A part of a sum. With the token behind it, which fits, the sum so far is certain, and only then it is made and judged.
+unfoldable pub summand : {X : Type 0} → List ℕ → Sort X → Reader X → Ending → Reader X
+summand bytes sort unary ending star n ts = product bytes sort unary star n ts >>= λ x. guarded (fits_behind ending (seen bytes x.2)) P1 (place bytes x.2) (λ _. Ok x)
 
-abbrev pub more_terms : {X : Type 0} → List ℕ → Sort X → Reader X → Option ℕ → ℕ → X × ℕ × List Token → Counted X
-more_terms bytes sort unary star k x = chain (λ y. term_sign (seen bytes y.2)) (term bytes sort unary star) k x
+unfoldable pub term : {X : Type 0} → List ℕ → Sort X → Reader X → Ending → Option ℕ → Sign → X × ℕ × List Token → Counted X
+term bytes sort unary ending star s x = step bytes (λ y at. summand bytes sort unary ending star) sort.joined s x
 
-unfoldable pub sum : {X : Type 0} → List ℕ → Sort X → Reader X → Reader X
-sum bytes sort unary star n ts = product bytes sort unary star n ts >>= more_terms bytes sort unary star most_operands
+abbrev pub more_terms : {X : Type 0} → List ℕ → Sort X → Reader X → Ending → Option ℕ → ℕ → X × ℕ × List Token → Counted X
+more_terms bytes sort unary ending star k x = chain (λ y. term_sign (seen bytes y.2)) (term bytes sort unary ending star) k x
+
+unfoldable pub sum : {X : Type 0} → List ℕ → Sort X → Reader X → Ending → Reader X
+sum bytes sort unary ending star n ts = summand bytes sort unary ending star n ts >>= more_terms bytes sort unary ending star most_operands
 
 abbrev pub begins_operand : Look → Bool
 begins_operand looks.Name = true
@@ -104,7 +126,7 @@ unfoldable pub behind_minus : {X : Type 0} → List ℕ → Sort X → Reader X 
 behind_minus bytes sort deeper star n ts = deeper star n (drop 1 ts) >>= λ x. sort.negated (place bytes ts) x.0 >>= λ y. Ok (y, x.1, x.2)
 
 unfoldable pub between_parens : {X : Type 0} → List ℕ → Sort X → Reader X → Reader X
-between_parens bytes sort deeper star n ts = sum bytes sort deeper star n (drop 1 ts) >>= λ x. sign_at bytes P1 signs.RightParen x.2 >>= λ rest. Ok (x.0, x.1, rest)
+between_parens bytes sort deeper star n ts = sum bytes sort deeper endings.Paren star n (drop 1 ts) >>= λ x. sign_at bytes P1 signs.RightParen x.2 >>= λ rest. Ok (x.0, x.1, rest)
 
 -- What stands behind a `-` or between parentheses is one level deeper; at the last level only an operand may stand.
 unfoldable pub unary : {X : Type 0} → List ℕ → Sort X → ℕ → Reader X
@@ -115,5 +137,5 @@ unary bytes sort (suc left) star n ts = opened (opening (seen bytes ts))
     (λ _. counted_operand bytes sort (suc left) star n ts)
 
 -- a whole expression, where `left` more levels may open
-abbrev pub expression : {X : Type 0} → List ℕ → Sort X → ℕ → List Token → Read X
-expression bytes sort left ts = sum bytes sort (unary bytes sort left) None 0 ts >>= λ x. Ok (x.0, x.2)
+abbrev pub expression : {X : Type 0} → List ℕ → Sort X → ℕ → Ending → List Token → Read X
+expression bytes sort left ending ts = sum bytes sort (unary bytes sort left) ending None 0 ts >>= λ x. Ok (x.0, x.2)

@@ -12,6 +12,7 @@ use Rattle.ch_lex.specs.declared.token.Sign.TheVariants as signs
 use Rattle.ch_lex.specs.declared.token.Token.{Token}
 use Rattle.ch_nest.specs.Limits.{most_affine, most_nesting}
 use Rattle.ch_nest.specs.Shape.{high_end, is_at_most, low_end}
+use Rattle.ch_nestparse.specs.declared.ahead.Ending.TheVariants as endings
 use Rattle.ch_nestparse.specs.declared.ahead.Look.{Look}
 use Rattle.ch_nestparse.specs.declared.ahead.Look.TheVariants as looks
 use Rattle.ch_nestparse.specs.declared.heads.Ends.{Ends}
@@ -22,7 +23,7 @@ use Rattle.ch_nestparse.specs.Read.{◌>>=◌, Read, refused, guarded, choose, r
 
 -- `,` and one form more
 unfoldable pub more_at : List ℕ → Names → ℕ → List Form → List Token → Read (List Form)
-more_at bytes names levels found ts = form_at bytes names levels most_nesting (drop 1 ts) >>= λ form. Ok (found ++ form.0 ∷ [], form.1)
+more_at bytes names levels found ts = form_at bytes names levels most_nesting endings.Listed (drop 1 ts) >>= λ form. Ok (found ++ form.0 ∷ [], form.1)
 
 abbrev pub next_is_comma : List ℕ → List Token → Bool
 next_is_comma bytes ts = next_is bytes signs.Comma ts
@@ -31,14 +32,14 @@ next_is_comma bytes ts = next_is bytes signs.Comma ts
 unfoldable pub several_at : List ℕ → Names → ℕ → List Token → Read (List Form)
 several_at bytes names levels ts = do
   inside ← sign_at bytes P1 signs.LeftParen ts
-  first ← form_at bytes names levels most_nesting inside
+  first ← form_at bytes names levels most_nesting endings.Listed inside
   all ← repeated (next_is_comma bytes) (more_at bytes names levels) 3 (first.0 ∷ []) first.1
   few ← guarded (not (next_is_comma bytes all.1)) P1 (place bytes (drop 1 all.1)) (λ _. Ok all)
   rest ← sign_at bytes P1 signs.RightParen few.1
   Ok (few.0, rest)
 
 unfoldable pub single_at : List ℕ → Names → ℕ → List Token → Read (List Form)
-single_at bytes names levels ts = form_at bytes names levels most_nesting ts >>= λ form. Ok (form.0 ∷ [], form.1)
+single_at bytes names levels ts = form_at bytes names levels most_nesting endings.Semicolon ts >>= λ form. Ok (form.0 ∷ [], form.1)
 
 -- one form, or some behind `max` or `min`
 unfoldable pub ends_at : List ℕ → Keyword → Names → ℕ → List Token → Read (List Form)

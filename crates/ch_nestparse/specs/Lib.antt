@@ -6,8 +6,10 @@ pub mod Expressions
 pub mod Forms
 pub mod Gives
 pub mod Heads
+pub mod Inside
 pub mod Items
 pub mod Read
 pub mod Rights
 pub mod Sections
 pub mod Spelling
+pub mod TextOrder

@@ -1,18 +1,16 @@
-ghost use Rattle.std.specs.Prelude.{◌≡◌, ◌<◌, ◌≤◌, ◌^◌, length, IfOk, IsTrue};
+ghost use Rattle.std.specs.Prelude.{◌≡◌, ℕ, ◌<◌, ◌≤◌, ◌^◌, length, IfOk, IsTrue};
 ghost use Rattle.ch_nest.specs.Shape.{form_fits};
-ghost use Rattle.ch_nestparse.specs.Expressions.{begins_operand, behind_minus, between_parens, counted_operand, factor, factor_sign, opening, product, star_after, sum, term, term_sign, unary};
+ghost use Rattle.ch_nestparse.specs.Expressions.{begins_operand, behind_minus, between_parens, closes, counted_operand, factor, factor_sign, fits_behind, opening, product, star_after, sum, summand, term, term_sign, unary};
 ghost use Rattle.ch_nestparse.specs.Forms.{form_at, operand_part, parts};
 ghost use Rattle.ch_nestparse.specs.Gives.{Gives};
 
-use crate::ahead::{Look, Opening, after, next_is, place, refused, seen, sign, text_at};
+use crate::ahead::{Ending, Look, Opening, after, next_is, place, refused, seen, sign, text_at};
+use crate::limits::MOST_OPERANDS;
 use crate::part::{Part, joined_parts, named_part, negated, number_part};
 use crate::scope::{Named, Names};
 use ch_affine::Aff;
 use ch_lex::{Code2, ParseError, Sign, Token};
 use std::alloc::Global;
-
-/// Numbers, names and accesses of one expression.
-pub(crate) const MOST_OPERANDS: u32 = 256;
 
 /// The next sign, where it goes on with a product.
 pub(crate) fn factor_sign(look: Look) -> Option<Sign>
@@ -32,6 +30,32 @@ pub(crate) fn term_sign(look: Look) -> Option<Sign>
         Look::Sign(Sign::Plus) => Some(Sign::Plus),
         Look::Sign(Sign::Minus) => Some(Sign::Minus),
         _ => None,
+    }
+}
+
+/// Whether this sign ends an expression that stands there.
+fn closes(ending: Ending, sign: Sign) -> bool
+    ensures { result ≡ closes ending sign }
+{
+    match (ending, sign) {
+        (Ending::Paren, Sign::RightParen) => true,
+        (Ending::Bracket, Sign::RightBracket) => true,
+        (Ending::Listed, Sign::Comma) => true,
+        (Ending::Listed, Sign::RightParen) => true,
+        (Ending::Semicolon, Sign::Semicolon) => true,
+        _ => false,
+    }
+}
+
+/// Whether a sum goes on or ends with what stands behind a part of it.
+pub(crate) fn fits_behind(ending: Ending, look: Look) -> bool
+    ensures { result ≡ fits_behind ending look }
+{
+    match look {
+        Look::Sign(Sign::Plus) => true,
+        Look::Sign(Sign::Minus) => true,
+        Look::Sign(sign) => closes(ending, sign),
+        _ => false,
     }
 }
 
@@ -91,16 +115,14 @@ fn operand<'a>(
     bytes: &[u8],
     names: &Names,
     levels: u32,
-    left: u32,
     star: Option<u32>,
     tokens: &'a [Token],
 ) -> Result<(Part, &'a [Token]), ParseError>
     requires short { length bytes.now < 2 ^ 32 }
     requires levels { levels ≤ 6 }
-    ensures exact { Gives (λ r. (r.0, r.1.now)) result ((parts bytes.now names.now levels).operand left star tokens.now) }
+    ensures exact { (left : ℕ) → Gives (λ r. (r.0, r.1.now)) result ((parts bytes.now names.now levels).operand left star tokens.now) }
     ensures fits { IfOk result (λ r. IsTrue (form_fits levels r.0.form)) }
 {
-    let _ = left;
     let rest = after(tokens);
     let part = operand_part(
         alloc,
@@ -134,7 +156,7 @@ fn counted_operand<'a>(
     if !begins_operand(seen(bytes, tokens)) || count >= MOST_OPERANDS {
         return Err(refused(Code2::P1, place(bytes, tokens)));
     }
-    let (part, rest) = operand(alloc, bytes, names, levels, left, star, tokens)?;
+    let (part, rest) = operand(alloc, bytes, names, levels, star, tokens)?;
     Ok((part, count + 1, rest))
 }
 
@@ -182,7 +204,17 @@ fn between_parens<'a>(
     ensures fits { IfOk result (λ r. IsTrue (form_fits levels r.0.form)) }
 {
     let inside = after(tokens);
-    let (part, count, rest) = sum(alloc, bytes, names, levels, left, star, count, inside)?;
+    let (part, count, rest) = sum(
+        alloc,
+        bytes,
+        names,
+        levels,
+        left,
+        Ending::Paren,
+        star,
+        count,
+        inside,
+    )?;
     let rest = sign(bytes, Code2::P1, Sign::RightParen, rest)?;
     Ok((part, count, rest))
 }
@@ -298,6 +330,32 @@ fn product<'a>(
     Ok((part, count, rest))
 }
 
+/// A part of a sum, behind which the sum goes on or ends.
+#[cycle(affine)]
+#[tactic(auto, unfolding(crate::specs::Expressions::summand))]
+fn summand<'a>(
+    alloc: Global,
+    bytes: &[u8],
+    names: &Names,
+    levels: u32,
+    left: u32,
+    ending: Ending,
+    star: Option<u32>,
+    count: u32,
+    tokens: &'a [Token],
+) -> Result<(Part, u32, &'a [Token]), ParseError>
+    requires short { length bytes.now < 2 ^ 32 }
+    requires levels { levels ≤ 6 }
+    ensures exact { Gives (λ r. (r.0, r.1, r.2.now)) result (summand bytes.now (parts bytes.now names.now levels) (unary bytes.now (parts bytes.now names.now levels) left) ending star count tokens.now) }
+    ensures fits { IfOk result (λ r. IsTrue (form_fits levels r.0.form)) }
+{
+    let (part, count, rest) = product(alloc, bytes, names, levels, left, star, count, tokens)?;
+    if !fits_behind(ending, seen(bytes, rest)) {
+        return Err(refused(Code2::P1, place(bytes, rest)));
+    }
+    Ok((part, count, rest))
+}
+
 /// One term more.
 #[cycle(affine)]
 #[tactic(auto, unfolding(crate::specs::Expressions::term, crate::specs::Forms::parts), using(crate::proofs::Narrow::fits_length))]
@@ -307,6 +365,7 @@ fn term<'a>(
     names: &Names,
     levels: u32,
     left: u32,
+    ending: Ending,
     star: Option<u32>,
     sign: Sign,
     part: &Part,
@@ -316,16 +375,17 @@ fn term<'a>(
     requires short { length bytes.now < 2 ^ 32 }
     requires levels { levels ≤ 6 }
     requires part { IsTrue (form_fits levels part.now.form) }
-    ensures exact { Gives (λ r. (r.0, r.1, r.2.now)) result (term bytes.now (parts bytes.now names.now levels) (unary bytes.now (parts bytes.now names.now levels) left) star sign (part.now, count, tokens.now)) }
+    ensures exact { Gives (λ r. (r.0, r.1, r.2.now)) result (term bytes.now (parts bytes.now names.now levels) (unary bytes.now (parts bytes.now names.now levels) left) ending star sign (part.now, count, tokens.now)) }
     ensures fits { IfOk result (λ r. IsTrue (form_fits levels r.0.form)) }
 {
     let at = place(bytes, tokens);
-    let (other, count, rest) = product(
+    let (other, count, rest) = summand(
         alloc,
         bytes,
         names,
         levels,
         left,
+        ending,
         star,
         count,
         after(tokens),
@@ -343,24 +403,25 @@ fn sum<'a>(
     names: &Names,
     levels: u32,
     left: u32,
+    ending: Ending,
     star: Option<u32>,
     count: u32,
     tokens: &'a [Token],
 ) -> Result<(Part, u32, &'a [Token]), ParseError>
     requires short { length bytes.now < 2 ^ 32 }
     requires levels { levels ≤ 6 }
-    ensures exact { Gives (λ r. (r.0, r.1, r.2.now)) result (sum bytes.now (parts bytes.now names.now levels) (unary bytes.now (parts bytes.now names.now levels) left) star count tokens.now) }
+    ensures exact { Gives (λ r. (r.0, r.1, r.2.now)) result (sum bytes.now (parts bytes.now names.now levels) (unary bytes.now (parts bytes.now names.now levels) left) ending star count tokens.now) }
     ensures fits { IfOk result (λ r. IsTrue (form_fits levels r.0.form)) }
 {
-    let (mut part, mut count, mut rest) = product(
-        alloc, bytes, names, levels, left, star, count, tokens,
+    let (mut part, mut count, mut rest) = summand(
+        alloc, bytes, names, levels, left, ending, star, count, tokens,
     )?;
     for _k in 0..MOST_OPERANDS {
         match term_sign(seen(bytes, rest)) {
             None => return Ok((part, count, rest)),
             Some(sign) => {
                 let (both, so_far, next) = term(
-                    alloc, bytes, names, levels, left, star, sign, &part, count, rest,
+                    alloc, bytes, names, levels, left, ending, star, sign, &part, count, rest,
                 )?;
                 part = both;
                 count = so_far;
@@ -379,14 +440,15 @@ pub(crate) fn form<'a>(
     names: &Names,
     levels: u32,
     left: u32,
+    ending: Ending,
     tokens: &'a [Token],
 ) -> Result<(Aff, &'a [Token]), ParseError>
     requires short { length bytes.now < 2 ^ 32 }
     requires levels { levels ≤ 6 }
-    ensures exact { Gives (λ r. (r.0, r.1.now)) result (form_at bytes.now names.now levels left tokens.now) }
+    ensures exact { Gives (λ r. (r.0, r.1.now)) result (form_at bytes.now names.now levels left ending tokens.now) }
     ensures fits { IfOk result (λ r. IsTrue (form_fits levels r.0)) }
 {
-    let (part, _count, rest) = sum(alloc, bytes, names, levels, left, None, 0, tokens)?;
+    let (part, _count, rest) = sum(alloc, bytes, names, levels, left, ending, None, 0, tokens)?;
     let Part { form, .. } = part;
     Ok((form, rest))
 }

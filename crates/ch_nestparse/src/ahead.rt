@@ -10,9 +10,8 @@ ghost use Rattle.ch_nest.specs.Limits.{most_number};
 ghost use Rattle.ch_nestparse.specs.Gives.{Gives};
 ghost use Rattle.ch_nestparse.specs.Read.{begins, integer_at, is_keyword, is_sign, keyword_at, name_at, next_is, number_at, place, seen, sign_at, sign_index, text_at, text_of, word_look};
 
+use crate::limits::MOST_NUMBER;
 use ch_lex::{Code2, Keyword, Kind, ParseError, Sign, Token, keyword_of};
-
-const MOST_NUMBER: u32 = 1 << 31;
 
 /// What the next token is to a reader.
 #[derive(Clone, Copy, Debug)]
@@ -30,6 +29,16 @@ pub enum Opening {
     Minus,
     Paren,
     Operand,
+}
+
+/// Which signs end an expression, by where it stands: between parentheses, as a subscript, among the forms of `max` or `min`,
+/// or before a semicolon.
+#[derive(Clone, Copy, Debug)]
+pub enum Ending {
+    Paren,
+    Bracket,
+    Listed,
+    Semicolon,
 }
 
 /// A refusal without a number, at byte `at`.

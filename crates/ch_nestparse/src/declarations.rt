@@ -9,14 +9,12 @@ ghost use Rattle.ch_nestparse.specs.Read.{repeated};
 use crate::ahead::{
     Look, after, begins, integer, keyword, next_is, place, refused, seen, sign, text_at,
 };
+use crate::limits::{MORE_EXTENTS, MOST_CELLS};
 use crate::scope::{Named, Names, fresh};
 use ch_affine::{List, Text};
 use ch_lex::{Code2, Keyword, ParseError, Sign, Token};
 use ch_nest::{ArrayDecl, Fill, cells_in};
 use std::alloc::Global;
-
-/// Cells of all arrays.
-const MOST_CELLS: u128 = 262144;
 
 /// One let more.
 #[tactic(auto, unfolding(crate::specs::Declarations::let_at))]
@@ -163,7 +161,7 @@ fn more_extents<'a>(
 {
     let mut found = first;
     let mut rest = tokens;
-    for _k in 0..3u32 {
+    for _k in 0..MORE_EXTENTS {
         if !next_is(bytes, Sign::LeftBracket, rest) {
             return Ok((found, rest));
         }

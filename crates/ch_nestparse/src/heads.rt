@@ -7,18 +7,13 @@ ghost use Rattle.ch_nestparse.specs.Heads.{bounded, ends_at, head_at, high_at, l
 ghost use Rattle.ch_nestparse.specs.Read.{find_name, repeated};
 
 use crate::affine::form;
-use crate::ahead::{Look, after, begins, name, next_is, place, refused, seen, sign};
+use crate::ahead::{Ending, Look, after, begins, name, next_is, place, refused, seen, sign};
+use crate::limits::{MORE_FORMS, MOST_AFFINE, MOST_NESTING};
 use crate::scope::{Names, fresh};
 use ch_affine::{Aff, List, Range};
 use ch_lex::{Code2, Keyword, ParseError, Sign, Token};
 use ch_nest::boxes::{least_of_greatest, low_end};
 use std::alloc::{AllocError, Global};
-
-/// Parentheses and minus signs around one another.
-const MOST_NESTING: u32 = 32;
-
-/// The magnitude of the ends of a loop's box.
-const MOST_AFFINE: u128 = 1 << 30;
 
 /// The forms of a low or a high end, and the end of the loop's box that they give.
 #[derive(Drop)]
@@ -44,7 +39,15 @@ fn more<'a>(
     ensures fits { IfOk result (λ r. IsTrue (list_all (form_fits levels) r.0)) }
 {
     let mut found = found;
-    let (form, rest) = form(alloc, bytes, names, levels, MOST_NESTING, after(tokens))?;
+    let (form, rest) = form(
+        alloc,
+        bytes,
+        names,
+        levels,
+        MOST_NESTING,
+        Ending::Listed,
+        after(tokens),
+    )?;
     found.push(form)?;
     Ok((found, rest))
 }
@@ -67,7 +70,7 @@ fn more_forms<'a>(
 {
     let mut found = first;
     let mut rest = tokens;
-    for _k in 0..3u32 {
+    for _k in 0..MORE_FORMS {
         if !next_is(bytes, Sign::Comma, rest) {
             return Ok((found, rest));
         }
@@ -93,7 +96,15 @@ fn single<'a>(
     ensures fits { IfOk result (λ r. IsTrue (list_all (form_fits levels) r.0)) }
 {
     let mut forms = List::new(alloc);
-    let (form, rest) = form(alloc, bytes, names, levels, MOST_NESTING, tokens)?;
+    let (form, rest) = form(
+        alloc,
+        bytes,
+        names,
+        levels,
+        MOST_NESTING,
+        Ending::Semicolon,
+        tokens,
+    )?;
     forms.push(form)?;
     Ok((forms, rest))
 }
@@ -114,7 +125,15 @@ fn several<'a>(
 {
     let rest = sign(bytes, Code2::P1, Sign::LeftParen, tokens)?;
     let mut forms = List::new(alloc);
-    let (first, rest) = form(alloc, bytes, names, levels, MOST_NESTING, rest)?;
+    let (first, rest) = form(
+        alloc,
+        bytes,
+        names,
+        levels,
+        MOST_NESTING,
+        Ending::Listed,
+        rest,
+    )?;
     forms.push(first)?;
     let (forms, rest) = more_forms(alloc, bytes, names, levels, forms, rest)?;
     if next_is(bytes, Sign::Comma, rest) {
@@ -149,7 +168,7 @@ fn end_forms<'a>(
 fn is_near(end: i128) -> bool
     ensures { result ≡ is_at_most most_affine end }
 {
-    end.unsigned_abs() <= MOST_AFFINE
+    end.unsigned_abs() <= MOST_AFFINE as u128
 }
 
 /// The end of a box, where it keeps the limit; it is refused at byte `at`.

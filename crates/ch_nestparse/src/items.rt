@@ -7,6 +7,7 @@ ghost use Rattle.ch_nestparse.specs.Read.{repeated};
 
 use crate::ahead::{after, begins, name, next_is, place, refused, sign};
 use crate::heads::head;
+use crate::limits::{MOST_ITEMS, MOST_NESTING, MOST_STATEMENTS};
 use crate::rights::access;
 use crate::scope::{Named, Names};
 use crate::sides::right;
@@ -15,11 +16,6 @@ use ch_lex::{Code2, Keyword, ParseError, Sign, Token};
 use ch_nest::boxes::extended_boxes;
 use ch_nest::{Body, Item};
 use std::alloc::Global;
-
-/// Parentheses and minus signs around one another.
-const MOST_NESTING: u32 = 32;
-
-const MOST_STATEMENTS: u32 = 16;
 
 /// The number and the dimensions of the array that a statement writes; `few` says that one more statement may stand.
 fn written(few: bool, at: u32, named: Option<Named>) -> Result<(u32, u32), ParseError>
@@ -96,7 +92,7 @@ fn more_items<'a>(
     let mut found = found;
     let mut label = label;
     let mut rest = tokens;
-    for _k in 0..17u32 {
+    for _k in 0..MOST_ITEMS {
         if next_is(bytes, Sign::RightBrace, rest) {
             return Ok((found, label, rest));
         }

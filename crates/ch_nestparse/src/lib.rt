@@ -10,6 +10,7 @@ mod ahead;
 mod declarations;
 mod heads;
 mod items;
+mod limits;
 mod part;
 mod program;
 mod rights;
@@ -19,8 +20,8 @@ mod sides;
 mod tests;
 
 pub use ahead::{
-    Look, Opening, after, begins, integer, keyword, name, next_is, number, place, refused, seen,
-    sign, text_at,
+    Ending, Look, Opening, after, begins, integer, keyword, name, next_is, number, place, refused,
+    seen, sign, text_at,
 };
 pub use declarations::Declared;
 pub use heads::Ends;

@@ -7,13 +7,11 @@ ghost use Rattle.ch_lex.specs.declared.error.Code2.TheVariants.{A1};
 ghost use Rattle.ch_lex.specs.declared.error.ParseError.TheVariants.{Refused};
 
 use crate::ahead::refused;
+use crate::limits::MOST_AFFINE;
 use crate::scope::Named;
 use ch_affine::{Aff, AffError, List, combine};
 use ch_lex::{Code2, ParseError, Sign};
 use std::alloc::{AllocError, Global};
-
-/// The magnitude of a coefficient and of a constant in affine text.
-const MOST_AFFINE: i64 = 1 << 30;
 
 /// A part of an affine form, and whether an iterator stands in its text.
 #[derive(Debug, Drop)]

@@ -1,24 +1,24 @@
-ghost use Rattle.std.specs.Prelude.{◌≡◌, ◌<◌, ◌≤◌, ◌^◌, ◌+◌, ◌-◌, length, true, IfOk, IsTrue, take};
+ghost use Rattle.std.specs.Prelude.{◌≡◌, ◌<◌, ◌≤◌, ◌^◌, ◌+◌, ◌-◌, length, true, IfErr, IfOk, IsTrue, take};
 ghost use Rattle.std.specs.Char.{is_ascii};
-ghost use Rattle.std.specs.List.{list_all};
+ghost use Rattle.std.specs.List.{All, list_all};
 ghost use Rattle.ch_lex.specs.Cut.{IsCut};
 ghost use Rattle.ch_nest.specs.Shape.{is_nest};
 ghost use Rattle.ch_nestparse.specs.Distinct.{are_distinct};
 ghost use Rattle.ch_nestparse.specs.Gives.{Gives};
+ghost use Rattle.ch_nestparse.specs.Inside.{IsWithin};
 ghost use Rattle.ch_nestparse.specs.Spelling.{is_fill, is_name, is_named};
 ghost use Rattle.ch_nestparse.specs.Sections.{before, program_at, section_at};
+ghost use Rattle.ch_nestparse.specs.TextOrder.{are_named, text_accesses};
 
 use crate::accesses::accesses;
 use crate::ahead::{keyword, name, sign};
 use crate::declarations::{Declared, arrays, lets};
 use crate::items::items;
+use crate::limits::DEEPEST;
 use ch_affine::{List, Text};
 use ch_lex::{Code2, Keyword, ParseError, Sign, Token};
 use ch_nest::{ArrayDecl, Fill, Item, Nest};
 use std::alloc::Global;
-
-/// Loops around one another.
-const DEEPEST: u32 = 6;
 
 /// A program: its name, its nest, how each of its arrays starts, the byte at which each of its accesses begins, in the order
 /// of its text, and the number of the first token behind it.
@@ -87,7 +87,7 @@ fn read_section<'a>(
 }
 
 /// A program section, whose nest is well formed.
-#[tactic(auto, using(crate::proofs::SectionsFit::section_nest, crate::proofs::SectionsFit::section_fills, crate::proofs::SectionsFit::section_distinct, crate::proofs::SectionsFit::section_taken))]
+#[tactic(auto, using(crate::proofs::SectionsFit::section_nest, crate::proofs::SectionsFit::section_fills, crate::proofs::SectionsFit::section_distinct, crate::proofs::SectionsFit::section_taken, crate::proofs::TextTold::accesses_named))]
 fn section<'a>(
     alloc: Global,
     bytes: &[u8],
@@ -99,6 +99,7 @@ fn section<'a>(
     ensures nest { IfOk result (λ r. is_nest (record { arrays = r.0.arrays; items = r.0.items }) ≡ true) }
     ensures fills { IfOk result (λ r. length r.0.fills ≡ length r.0.arrays) }
     ensures distinct { IfOk result (λ r. IsTrue (are_distinct r.0.arrays)) }
+    ensures accesses { IfOk result (λ r. IsTrue (are_named bytes.now r.0.arrays r.0.accesses (text_accesses r.0.items))) }
     ensures taken { IfOk result (λ r. length r.1.now + 1 ≤ length tokens.now) }
 {
     let (parts, rest) = read_section(alloc, bytes, tokens)?;
@@ -108,8 +109,10 @@ fn section<'a>(
 /// The program section whose first token, `program`, is token `from`: its program, or its first refusal.
 ///
 /// The tokens are those of the bytes. Then each array has a fill whose numbers have magnitude at most 2^31, the names are
-/// names of the language, no two arrays have one name, and `next` is behind `from`.
-#[tactic(auto, using(crate::proofs::Ascii::cut_ascii, crate::proofs::Cuts::few_tokens, crate::proofs::Spellings::spelled_arrays, crate::proofs::Spellings::spelled_fills))]
+/// names of the language, no two arrays have one name, and `next` is behind `from`. `accesses` has a place for each access of
+/// the nest, in the order of the text: a statement's write, then its reads from left to right; there stands the name of the
+/// access's array. Each place lies in the text, that of a refusal also at its end.
+#[tactic(auto, using(crate::proofs::Ascii::cut_ascii, crate::proofs::Cuts::few_tokens, crate::proofs::Placed::refused_inside, crate::proofs::TextTold::named_count, crate::proofs::Spellings::spelled_arrays, crate::proofs::Spellings::spelled_fills))]
 pub fn parse_program(
     alloc: Global,
     tokens: &[Token],
@@ -125,6 +128,10 @@ pub fn parse_program(
     ensures name { IfOk result (λ p. IsTrue (is_name p.name)) }
     ensures array_names { IfOk result (λ p. IsTrue (list_all is_named p.nest.arrays)) }
     ensures fill_numbers { IfOk result (λ p. IsTrue (list_all is_fill p.fills)) }
+    ensures place { IfErr result (λ e. IsWithin (length bytes.now) e) }
+    ensures accesses { IfOk result (λ p. IsTrue (are_named bytes.now p.nest.arrays p.accesses (text_accesses p.nest.items))) }
+    ensures access_count { IfOk result (λ p. length p.accesses ≡ length (text_accesses p.nest.items)) }
+    ensures access_places { IfOk result (λ p. All (λ at. at < length bytes.now) p.accesses) }
     ensures behind { IfOk result (λ p. from < p.next) }
     ensures within { IfOk result (λ p. p.next ≤ length tokens.now) }
 {

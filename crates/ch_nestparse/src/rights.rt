@@ -4,7 +4,7 @@ ghost use Rattle.ch_nestparse.specs.Read.{repeated};
 ghost use Rattle.ch_nestparse.specs.Rights.{access_at, access_right, always, operand_right, plain_right, sub_at};
 
 use crate::affine::form;
-use crate::ahead::{Look, next_is, place, refused, sign};
+use crate::ahead::{Ending, Look, next_is, place, refused, sign};
 use crate::scope::{Named, Names};
 use ch_affine::List;
 use ch_lex::{Code2, ParseError, Sign, Token};
@@ -28,7 +28,7 @@ fn sub<'a>(
 {
     let mut found = found;
     let inside = sign(bytes, Code2::P1, Sign::LeftBracket, tokens)?;
-    let (form, rest) = form(alloc, bytes, names, levels, left, inside)?;
+    let (form, rest) = form(alloc, bytes, names, levels, left, Ending::Bracket, inside)?;
     let rest = sign(bytes, Code2::P1, Sign::RightBracket, rest)?;
     found.push(Sub { form, modulus: 0 })?;
     Ok((found, rest))

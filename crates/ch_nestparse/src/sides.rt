@@ -1,20 +1,18 @@
-ghost use Rattle.std.specs.Prelude.{◌≡◌, ℕ, ◌<◌, ◌≤◌, ◌^◌, length, IfOk};
+ghost use Rattle.std.specs.Prelude.{◌≡◌, Option, ℕ, ◌<◌, ◌≤◌, ◌^◌, length, IfOk};
 ghost use Rattle.ch_nest.specs.declared.nest.Expr.TheVariants as exprs;
-ghost use Rattle.ch_nestparse.specs.Expressions.{behind_minus, between_parens, counted_operand, factor, product, star_after, sum, term, unary};
+ghost use Rattle.ch_nestparse.specs.Expressions.{behind_minus, between_parens, counted_operand, factor, product, star_after, sum, summand, term, unary};
 ghost use Rattle.ch_nestparse.specs.Gives.{Gives};
 ghost use Rattle.ch_nestparse.specs.Rights.{joined_right, right_at, rights};
 
-use crate::affine::{MOST_OPERANDS, begins_operand, factor_sign, opening, star_after, term_sign};
-use crate::ahead::{Opening, after, next_is, place, refused, seen, sign, text_at};
+use crate::affine::{begins_operand, factor_sign, fits_behind, opening, star_after, term_sign};
+use crate::ahead::{Ending, Opening, after, next_is, place, refused, seen, sign, text_at};
+use crate::limits::{MOST_NESTING, MOST_OPERANDS};
 use crate::rights::operand_right;
 use crate::scope::Names;
 use ch_affine::Boxed;
 use ch_lex::{Code2, ParseError, Sign, Token};
 use ch_nest::Expr;
 use std::alloc::{AllocError, Global};
-
-/// Parentheses and minus signs around one another.
-const MOST_NESTING: u32 = 32;
 
 fn negated(alloc: Global, x: Expr) -> Result<Expr, AllocError>
     ensures { IfOk result (λ e. e ≡ exprs.Neg x) }
@@ -44,14 +42,12 @@ fn operand<'a>(
     names: &Names,
     levels: u32,
     left: u32,
-    star: Option<u32>,
     tokens: &'a [Token],
 ) -> Result<(Expr, &'a [Token]), ParseError>
     requires short { length bytes.now < 2 ^ 32 }
     requires levels { levels ≤ 6 }
-    ensures { Gives (λ r. (r.0, r.1.now)) result ((rights bytes.now names.now levels).operand left star tokens.now) }
+    ensures { (star : Option ℕ) → Gives (λ r. (r.0, r.1.now)) result ((rights bytes.now names.now levels).operand left star tokens.now) }
 {
-    let _ = star;
     let rest = after(tokens);
     operand_right(
         alloc,
@@ -86,7 +82,7 @@ fn counted_operand<'a>(
     if !begins_operand(seen(bytes, tokens)) || count >= MOST_OPERANDS {
         return Err(refused(Code2::P1, place(bytes, tokens)));
     }
-    let (part, rest) = operand(alloc, bytes, names, levels, left, star, tokens)?;
+    let (part, rest) = operand(alloc, bytes, names, levels, left, tokens)?;
     Ok((part, count + 1, rest))
 }
 
@@ -131,7 +127,17 @@ fn between_parens<'a>(
     ensures { Gives (λ r. (r.0, r.1, r.2.now)) result (between_parens bytes.now (rights bytes.now names.now levels) (unary bytes.now (rights bytes.now names.now levels) left) star count tokens.now) }
 {
     let inside = after(tokens);
-    let (part, count, rest) = sum(alloc, bytes, names, levels, left, star, count, inside)?;
+    let (part, count, rest) = sum(
+        alloc,
+        bytes,
+        names,
+        levels,
+        left,
+        Ending::Paren,
+        star,
+        count,
+        inside,
+    )?;
     let rest = sign(bytes, Code2::P1, Sign::RightParen, rest)?;
     Ok((part, count, rest))
 }
@@ -242,6 +248,31 @@ fn product<'a>(
     Ok((part, count, rest))
 }
 
+/// A part of a sum, behind which the sum goes on or ends.
+#[cycle(right)]
+#[tactic(auto, unfolding(crate::specs::Expressions::summand))]
+fn summand<'a>(
+    alloc: Global,
+    bytes: &[u8],
+    names: &Names,
+    levels: u32,
+    left: u32,
+    ending: Ending,
+    star: Option<u32>,
+    count: u32,
+    tokens: &'a [Token],
+) -> Result<(Expr, u32, &'a [Token]), ParseError>
+    requires short { length bytes.now < 2 ^ 32 }
+    requires levels { levels ≤ 6 }
+    ensures { Gives (λ r. (r.0, r.1, r.2.now)) result (summand bytes.now (rights bytes.now names.now levels) (unary bytes.now (rights bytes.now names.now levels) left) ending star count tokens.now) }
+{
+    let (part, count, rest) = product(alloc, bytes, names, levels, left, star, count, tokens)?;
+    if !fits_behind(ending, seen(bytes, rest)) {
+        return Err(refused(Code2::P1, place(bytes, rest)));
+    }
+    Ok((part, count, rest))
+}
+
 /// One term more.
 #[cycle(right)]
 #[tactic(auto, unfolding(crate::specs::Expressions::term, crate::specs::Rights::rights))]
@@ -251,6 +282,7 @@ fn term<'a>(
     names: &Names,
     levels: u32,
     left: u32,
+    ending: Ending,
     star: Option<u32>,
     sign: Sign,
     part: Expr,
@@ -259,14 +291,15 @@ fn term<'a>(
 ) -> Result<(Expr, u32, &'a [Token]), ParseError>
     requires short { length bytes.now < 2 ^ 32 }
     requires levels { levels ≤ 6 }
-    ensures { Gives (λ r. (r.0, r.1, r.2.now)) result (term bytes.now (rights bytes.now names.now levels) (unary bytes.now (rights bytes.now names.now levels) left) star sign (part, count, tokens.now)) }
+    ensures { Gives (λ r. (r.0, r.1, r.2.now)) result (term bytes.now (rights bytes.now names.now levels) (unary bytes.now (rights bytes.now names.now levels) left) ending star sign (part, count, tokens.now)) }
 {
-    let (other, count, rest) = product(
+    let (other, count, rest) = summand(
         alloc,
         bytes,
         names,
         levels,
         left,
+        ending,
         star,
         count,
         after(tokens),
@@ -284,23 +317,24 @@ fn sum<'a>(
     names: &Names,
     levels: u32,
     left: u32,
+    ending: Ending,
     star: Option<u32>,
     count: u32,
     tokens: &'a [Token],
 ) -> Result<(Expr, u32, &'a [Token]), ParseError>
     requires short { length bytes.now < 2 ^ 32 }
     requires levels { levels ≤ 6 }
-    ensures { Gives (λ r. (r.0, r.1, r.2.now)) result (sum bytes.now (rights bytes.now names.now levels) (unary bytes.now (rights bytes.now names.now levels) left) star count tokens.now) }
+    ensures { Gives (λ r. (r.0, r.1, r.2.now)) result (sum bytes.now (rights bytes.now names.now levels) (unary bytes.now (rights bytes.now names.now levels) left) ending star count tokens.now) }
 {
-    let (mut part, mut count, mut rest) = product(
-        alloc, bytes, names, levels, left, star, count, tokens,
+    let (mut part, mut count, mut rest) = summand(
+        alloc, bytes, names, levels, left, ending, star, count, tokens,
     )?;
     for _k in 0..MOST_OPERANDS {
         match term_sign(seen(bytes, rest)) {
             None => return Ok((part, count, rest)),
             Some(sign) => {
                 let (both, so_far, next) = term(
-                    alloc, bytes, names, levels, left, star, sign, part, count, rest,
+                    alloc, bytes, names, levels, left, ending, star, sign, part, count, rest,
                 )?;
                 part = both;
                 count = so_far;
@@ -324,6 +358,16 @@ pub(crate) fn right<'a>(
     requires levels { levels ≤ 6 }
     ensures { Gives (λ r. (r.0, r.1.now)) result (right_at bytes.now names.now levels tokens.now) }
 {
-    let (part, _count, rest) = sum(alloc, bytes, names, levels, MOST_NESTING, None, 0, tokens)?;
+    let (part, _count, rest) = sum(
+        alloc,
+        bytes,
+        names,
+        levels,
+        MOST_NESTING,
+        Ending::Semicolon,
+        None,
+        0,
+        tokens,
+    )?;
     Ok((part, rest))
 }

@@ -326,7 +326,7 @@ fn names_and_limits_of_depth_are_refused_at_their_place(rt: HostRuntime) -> Resu
 
 #[test]
 fn numbers_that_are_too_large_are_refused(rt: HostRuntime) -> Result<(), Fail> {
-    let cases: [Refused; 17] = [
+    let cases: [Refused; 25] = [
         (
             b"program p { array A[4] = fill(0, 0); A[2147483648*0] = 1; }",
             Code2::A1,
@@ -418,6 +418,54 @@ fn numbers_that_are_too_large_are_refused(rt: HostRuntime) -> Result<(), Fail> {
             Code2::D8,
             48,
             0,
+        ),
+        (
+            b"program p { array A[4] = fill(0, 0); A[1073741824 + 1 2] = 1; }",
+            Code2::P1,
+            54,
+            0,
+        ),
+        (
+            b"program p { array A[4] = fill(0, 0); A[(1073741824 + 1] = 1; }",
+            Code2::P1,
+            54,
+            0,
+        ),
+        (
+            b"program p { array A[4] = fill(0, 0); A[1073741824 + 1",
+            Code2::P1,
+            53,
+            0,
+        ),
+        (
+            b"program p { array A[4] = fill(0, 0); A[1073741824 + 1 + zz] = 1; }",
+            Code2::A1,
+            50,
+            1073741825,
+        ),
+        (
+            b"program p { array A[4] = fill(0, 0); A[1073741824*2 2] = 1; }",
+            Code2::A1,
+            49,
+            2147483648,
+        ),
+        (
+            b"program p { array A[4] = fill(0, 0); for (i = max(0, 1073741824 + 1; i < 2; i++) A[0] = 1; }",
+            Code2::P1,
+            67,
+            0,
+        ),
+        (
+            b"program p { array A[4] = fill(0, 0); for (i = 2; i <= 2; i++) for (j = 1073741824*i, 2; j < 2; j++) A[0] = 1; }",
+            Code2::P1,
+            83,
+            0,
+        ),
+        (
+            b"program p { array A[4] = fill(0, 0); for (i = 2; i <= 2; i++) for (j = max(1073741824*i) 2; j < 2; j++) A[0] = 1; }",
+            Code2::A1,
+            62,
+            2147483648,
         ),
     ];
     compare_refusals(&rt, rt.alloc(), &cases)

@@ -13,12 +13,13 @@ use Rattle.ch_lex.specs.declared.token.Sign.TheVariants as signs
 use Rattle.ch_lex.specs.declared.token.Token.{Token}
 use Rattle.ch_nest.specs.Limits.{most_affine}
 use Rattle.ch_nest.specs.Shape.{is_at_most}
+use Rattle.ch_nestparse.specs.declared.ahead.Ending.{Ending}
 use Rattle.ch_nestparse.specs.declared.ahead.Look.{Look}
 use Rattle.ch_nestparse.specs.declared.ahead.Look.TheVariants as looks
 use Rattle.ch_nestparse.specs.declared.part.Part.{Part}
 use Rattle.ch_nestparse.specs.declared.scope.Named.{Named}
 use Rattle.ch_nestparse.specs.declared.scope.Named.TheVariants.{Iterator}
-use Rattle.ch_nestparse.specs.Expressions.{Counted, Reader, Sort, begins_operand, expression, factor_sign, more_terms, product, sum, term_sign, unary}
+use Rattle.ch_nestparse.specs.Expressions.{Counted, Reader, Sort, begins_operand, expression, factor_sign, fits_behind, more_terms, product, sum, term_sign, unary}
 use Rattle.ch_nestparse.specs.Forms.{constant_form, form_at, iterator_form, joined_parts, named_part, narrow, number_part_if, operand_part, parts, plain_part, times}
 use Rattle.ch_nestparse.specs.Read.{◌>>=◌, Names, find_name, is_sign, next_is, place, seen, text_at}
 use Rattle.ch_nestprint.specs.declared.symbol.Symbol.{Symbol}
@@ -29,10 +30,11 @@ use Rattle.ch_nestprint.proofs.Amounts.{IsSmall, all_kept, amount, amount_is, fa
 use Rattle.ch_nestprint.proofs.Reading.{At, Reached, factor_on, operand_given, product_begun, product_ends, sum_begun, sum_ends, term_on}
 use Rattle.ch_nestprint.proofs.Seeing.{Given, Sees, Valued, behind_front, front, given_bind, given_ok, seen_front, text_front}
 
--- no product, and no subscript, goes on here
-pub record Calm (rest : List Symbol) : Type 0 where
+-- no product, and no subscript, goes on here, and a part of a sum may end
+pub record Calm (ending : Ending) (rest : List Symbol) : Type 0 where
   pub stars : factor_sign (front rest) ≡ None
   pub brackets : is_sign signs.LeftBracket (front rest) ≡ false
+  pub follows : fits_behind ending (front rest) ≡ true
 
 abbrev pub mark_of : Bool → Sign
 mark_of false = signs.Plus
@@ -73,7 +75,7 @@ times_given at a b x y g e i f h small =
     let c = narrow_given at (combined (pos 0) a.form a.form.constant b.form) g b.iterates (rw (e, f) h) small in
     (c.0, ap (λ (t : Bool). times t at a b) i ∙ c.1, c.2)
 
-module _ (bytes : List ℕ) (names : Names) (levels letters left : ℕ) (iterators : (k : ℕ) → k < levels → find_name (iterator_name letters k) names ≡ Some (Iterator k)) where
+module _ (bytes : List ℕ) (names : Names) (levels letters left : ℕ) (ending : Ending) (iterators : (k : ℕ) → k < levels → find_name (iterator_name letters k) names ≡ Some (Iterator k)) where
   abbrev sort : Sort Part
   sort = parts bytes names levels
 
@@ -84,7 +86,7 @@ module _ (bytes : List ℕ) (names : Names) (levels letters left : ℕ) (iterato
   AtPart = At bytes sort
 
   abbrev Summed : Form → ℕ → List Symbol → Counted Part → Type 0
-  Summed f m rest r = Reached bytes sort (IsForm f) m m rest (more_terms bytes sort inner None) r
+  Summed f m rest r = Reached bytes sort (IsForm f) m m rest (more_terms bytes sort inner ending None) r
 
   number_operand : (star : Option ℕ) (n : ℕ) (ts : List Token) (rest : List Symbol) (size : ℕ) → n < 256 → is_at_most most_affine (pos size) ≡ true → Sees bytes ts (Number size ∷ rest)
       → Given (AtPart (IsConstant levels (pos size)) (n + 1) rest) (inner star n ts)
@@ -137,14 +139,14 @@ module _ (bytes : List ℕ) (names : Names) (levels letters left : ℕ) (iterato
   few_extra true m n h = omega arith
   few_extra false m n h = omega arith
 
-  number_product : (n : ℕ) (ts : List Token) (rest : List Symbol) (size : ℕ) → n < 256 → is_at_most most_affine (pos size) ≡ true → Calm rest → Sees bytes ts (Number size ∷ rest)
+  number_product : (n : ℕ) (ts : List Token) (rest : List Symbol) (size : ℕ) → n < 256 → is_at_most most_affine (pos size) ≡ true → Calm ending rest → Sees bytes ts (Number size ∷ rest)
       → Given (AtPart (IsConstant levels (pos size)) (n + 1) rest) (product bytes sort inner None n ts)
   number_product n ts rest size l h calm s =
       product_ends bytes sort inner None (IsConstant levels (pos size)) (n + 1) 1 rest (product bytes sort inner None n ts) calm.stars
       (product_begun bytes sort inner None (IsConstant levels (pos size)) (n + 1) 1 n ts rest (number_operand None n ts rest size l h s))
 
   times_product : (alone : Bool) (n : ℕ) (ts : List Token) (rest : List Symbol) (size k m : ℕ) → nat_eq size 1 ≡ alone → n + 2 < 256 → levels ≡ k + suc m → is_at_most most_affine (pos size) ≡ true
-      → Calm rest → Sees bytes ts (times_if alone size (iterator_name letters k) ++ rest)
+      → Calm ending rest → Sees bytes ts (times_if alone size (iterator_name letters k) ++ rest)
       → Given (AtPart (IsForm (form (unit (pos size) k m) (pos 0))) (n + extra alone) rest) (product bytes sort inner None n ts)
   unfolding parts
   times_product true n ts rest size k m a l e h calm s =
@@ -176,18 +178,18 @@ module _ (bytes : List ℕ) (names : Names) (levels letters left : ℕ) (iterato
   amount_small true (suc size) h = h
 
   constant_step : (below : Bool) (xs : List ℤ) (size m : ℕ) (more : List Symbol) (r : Counted Part) → levels ≡ length xs → list_all (is_at_most most_affine) xs ≡ true
-      → is_at_most most_affine (pos size) ≡ true → m + 1 < 256 → Calm more → Summed (form xs (pos 0)) m (Mark (mark_of below) ∷ Number size ∷ more) r
+      → is_at_most most_affine (pos size) ≡ true → m + 1 < 256 → Calm ending more → Summed (form xs (pos 0)) m (Mark (mark_of below) ∷ Number size ∷ more) r
       → Summed (form xs (amount below size)) (m + 1) more r
   unfolding parts
   constant_step below xs size m more r e small h l calm before =
       let made : combined (pos 1) (form xs (pos 0)) (factor_of below) (constant_form levels (pos size)) ≡ form xs (amount below size) = rw (all_kept below xs levels e, new below size) refl in
-      term_on bytes sort inner None (IsForm (form xs (pos 0))) (IsConstant levels (pos size)) (IsForm (form xs (amount below size))) m (m + 1) m (m + 1) (mark_of below) (Number size ∷ more) more r
-      (omega arith) (omega arith) (mark_adds below) before
+      term_on bytes sort inner None ending (IsForm (form xs (pos 0))) (IsConstant levels (pos size)) (IsForm (form xs (amount below size))) m (m + 1) m (m + 1) (mark_of below) (Number size ∷ more) more r
+      (omega arith) (omega arith) (mark_adds below) calm.follows before
       (λ us sees. number_product m us more size (omega arith) h calm sees)
       (λ at a b is f. joined_given below at a b (form xs (pos 0)) (constant_form levels (pos size)) (form xs (amount below size)) is f.0 made (small, amount_small below size h))
 
   coef_step : (alone below : Bool) (done : List ℤ) (k n size m : ℕ) (more : List Symbol) (r : Counted Part) → nat_eq size 1 ≡ alone → k ≡ length done → levels ≡ k + suc n
-      → list_all (is_at_most most_affine) done ≡ true → is_at_most most_affine (pos size) ≡ true → m + 3 < 256 → Calm more
+      → list_all (is_at_most most_affine) done ≡ true → is_at_most most_affine (pos size) ≡ true → m + 3 < 256 → Calm ending more
       → Summed (form (done ++ nothing (suc n)) (pos 0)) m (Mark (mark_of below) ∷ (times_if alone size (iterator_name letters k) ++ more)) r
       → Summed (form (done ++ amount below size ∷ nothing n) (pos 0)) (m + extra alone) more r
   unfolding parts
@@ -197,8 +199,8 @@ module _ (bytes : List ℕ) (names : Names) (levels letters left : ℕ) (iterato
       let z : Form = form (done ++ amount below size ∷ nothing n) (pos 0) in
       let made : combined (pos 1) x (factor_of below) y ≡ z = rw (unit_added below size done k n e, kept below (pos 0)) refl in
       let fits : IsSmall z = (rw (list_all-append, small, amount_small below size h, nothing_small n) refl, refl) in
-      term_on bytes sort inner None (IsForm x) (IsForm y) (IsForm z) m (m + extra alone) m (m + extra alone) (mark_of below) (times_if alone size (iterator_name letters k) ++ more) more r
-      (omega arith) (some_extra alone m) (mark_adds below) before
+      term_on bytes sort inner None ending (IsForm x) (IsForm y) (IsForm z) m (m + extra alone) m (m + extra alone) (mark_of below) (times_if alone size (iterator_name letters k) ++ more) more r
+      (omega arith) (some_extra alone m) (mark_adds below) calm.follows before
       (λ us sees. times_product alone m us more size k n a (omega arith) f h calm sees)
       (λ at u v is g. joined_given below at u v x y z is g made fits)
 
@@ -208,26 +210,26 @@ module _ (bytes : List ℕ) (names : Names) (levels letters left : ℕ) (iterato
   lead_is false = refl
   lead_is true = refl
 
-  calm_lead : (below : Bool) (xs rest : List Symbol) → Calm ((lead false below ++ xs) ++ rest)
-  calm_lead false xs rest = record { stars = refl; brackets = refl }
-  calm_lead true xs rest = record { stars = refl; brackets = refl }
+  calm_lead : (below : Bool) (xs rest : List Symbol) → Calm ending ((lead false below ++ xs) ++ rest)
+  calm_lead false xs rest = record { stars = refl; brackets = refl; follows = refl }
+  calm_lead true xs rest = record { stars = refl; brackets = refl; follows = refl }
 
-  calm_constant : (skip : Bool) (z : ℤ) (rest : List Symbol) → Calm rest → Calm (constant_if skip false z ++ rest)
+  calm_constant : (skip : Bool) (z : ℤ) (rest : List Symbol) → Calm ending rest → Calm ending (constant_if skip false z ++ rest)
   calm_constant true z rest calm = calm
   calm_constant false z rest calm = calm_lead (is_below z) (Number (unsigned_abs z) ∷ []) rest
 
-  calm_coef : (skip : Bool) (c : ℤ) (k : ℕ) (more rest : List Symbol) → Calm (more ++ rest) → Calm ((coef_if skip letters false c k ++ more) ++ rest)
+  calm_coef : (skip : Bool) (c : ℤ) (k : ℕ) (more rest : List Symbol) → Calm ending (more ++ rest) → Calm ending ((coef_if skip letters false c k ++ more) ++ rest)
   calm_coef true c k more rest calm = calm
   calm_coef false c k more rest calm =
       let t = times_if (nat_eq (unsigned_abs c) 1) (unsigned_abs c) (iterator_name letters k) in
       rw (append_assoc (lead false (is_below c)) t more) (calm_lead (is_below c) (t ++ more) rest)
 
-  calm_terms : (k : ℕ) (cs : List ℤ) (z : ℤ) (rest : List Symbol) → Calm rest → Calm (terms_symbols letters false k cs z ++ rest)
+  calm_terms : (k : ℕ) (cs : List ℤ) (z : ℤ) (rest : List Symbol) → Calm ending rest → Calm ending (terms_symbols letters false k cs z ++ rest)
   calm_terms k [] z rest calm = calm_constant (is_none z) z rest calm
   calm_terms k (c ∷ cs) z rest calm = calm_coef (is_none c) c k (terms_symbols letters false (k + 1) cs z) rest (calm_terms (k + 1) cs z rest calm)
 
   last_read : (skip : Bool) (xs : List ℤ) (z : ℤ) (m : ℕ) (rest : List Symbol) (r : Counted Part) → is_none z ≡ skip → levels ≡ length xs → list_all (is_at_most most_affine) xs ≡ true
-      → is_at_most most_affine z ≡ true → m + 1 < 256 → Calm rest → Summed (form xs (pos 0)) m (constant_if skip false z ++ rest) r → (n : ℕ) × Summed (form xs z) n rest r
+      → is_at_most most_affine z ≡ true → m + 1 < 256 → Calm ending rest → Summed (form xs (pos 0)) m (constant_if skip false z ++ rest) r → (n : ℕ) × Summed (form xs z) n rest r
   last_read true xs z m rest r none e small h l calm before = (m, rw (none_is z none) before)
   last_read false xs z m rest r none e small h l calm before =
       let there = rw (lead_is (is_below z)) at before in
@@ -236,12 +238,12 @@ module _ (bytes : List ℕ) (names : Names) (levels letters left : ℕ) (iterato
 
   abbrev MoreRead : List ℤ → Type 0
   MoreRead coefs = (done : List ℤ) (k : ℕ) (z : ℤ) (m : ℕ) (rest : List Symbol) (r : Counted Part) → k ≡ length done → levels ≡ k + length coefs
-      → list_all (is_at_most most_affine) done ≡ true → list_all (is_at_most most_affine) coefs ≡ true → is_at_most most_affine z ≡ true → m + 2 * length coefs + 3 < 256 → Calm rest
+      → list_all (is_at_most most_affine) done ≡ true → list_all (is_at_most most_affine) coefs ≡ true → is_at_most most_affine z ≡ true → m + 2 * length coefs + 3 < 256 → Calm ending rest
       → Summed (form (done ++ nothing (length coefs)) (pos 0)) m (terms_symbols letters false k coefs z ++ rest) r → (n : ℕ) × Summed (form (done ++ coefs) z) n rest r
 
   next_read : (skip : Bool) (c : ℤ) (cs : List ℤ) → MoreRead cs → (done : List ℤ) (k : ℕ) (z : ℤ) (m : ℕ) (rest : List Symbol) (r : Counted Part) → is_none c ≡ skip → k ≡ length done → levels ≡ k + suc (length cs)
       → list_all (is_at_most most_affine) done ≡ true → is_at_most most_affine c ≡ true → list_all (is_at_most most_affine) cs ≡ true → is_at_most most_affine z ≡ true
-      → m + 2 * length cs + 5 < 256 → Calm rest
+      → m + 2 * length cs + 5 < 256 → Calm ending rest
       → Summed (form (done ++ nothing (suc (length cs))) (pos 0)) m ((coef_if skip letters false c k ++ terms_symbols letters false (k + 1) cs z) ++ rest) r → (n : ℕ) × Summed (form (done ++ c ∷ cs) z) n rest r
   next_read true c cs again done k z m rest r none e f small first smalls h l calm before =
       let zero : c ≡ pos 0 = none_is c none in
@@ -291,33 +293,33 @@ module _ (bytes : List ℕ) (names : Names) (levels letters left : ℕ) (iterato
       rw e (ap (λ (t : List ℤ). pos 0 ∷ t) (nothing_joined k n))
 
   -- a form that begins with a number
-  number_first : (n : ℕ) (ts : List Token) (rest : List Symbol) (size : ℕ) → is_at_most most_affine (pos size) ≡ true → Calm rest → Sees bytes ts (Number size ∷ rest)
-      → Summed (form (nothing levels) (pos size)) 1 rest (sum bytes sort inner None 0 ts)
+  number_first : (n : ℕ) (ts : List Token) (rest : List Symbol) (size : ℕ) → is_at_most most_affine (pos size) ≡ true → Calm ending rest → Sees bytes ts (Number size ∷ rest)
+      → Summed (form (nothing levels) (pos size)) 1 rest (sum bytes sort inner ending None 0 ts)
   number_first n ts rest size h calm s =
       let g = number_product 0 ts rest size (omega arith) h calm s in
-      sum_begun bytes sort inner None (IsForm (form (nothing levels) (pos size))) 1 1 0 ts rest (g.0, g.1, (g.2.0.0, g.2.1, g.2.2))
+      sum_begun bytes sort inner None ending (IsForm (form (nothing levels) (pos size))) 1 1 0 ts rest calm.follows (g.0, g.1, (g.2.0.0, g.2.1, g.2.2))
 
-  constant_first : (below : Bool) (z : ℤ) (ts : List Token) (rest : List Symbol) → is_below z ≡ below → is_at_most most_affine z ≡ true → Calm rest
-      → Sees bytes ts ((lead true below ++ Number (unsigned_abs z) ∷ []) ++ rest) → (n : ℕ) × Summed (form (nothing levels) z) n rest (sum bytes sort inner None 0 ts)
+  constant_first : (below : Bool) (z : ℤ) (ts : List Token) (rest : List Symbol) → is_below z ≡ below → is_at_most most_affine z ≡ true → Calm ending rest
+      → Sees bytes ts ((lead true below ++ Number (unsigned_abs z) ∷ []) ++ rest) → (n : ℕ) × Summed (form (nothing levels) z) n rest (sum bytes sort inner ending None 0 ts)
   constant_first false z ts rest e h calm s =
       let is : pos (unsigned_abs z) ≡ z = rw e at (amount_is z) in
       let made = number_first 0 ts rest (unsigned_abs z) (size_small z h) calm s in
       (1, rw is at made)
   constant_first true z ts rest e h calm s =
       let is : amount true (unsigned_abs z) ≡ z = rw e at (amount_is z) in
-      let calm_minus : Calm (Mark signs.Minus ∷ Number (unsigned_abs z) ∷ rest) = record { stars = refl; brackets = refl } in
+      let calm_minus : Calm ending (Mark signs.Minus ∷ Number (unsigned_abs z) ∷ rest) = record { stars = refl; brackets = refl; follows = refl } in
       let before = number_first 0 ts (Mark signs.Minus ∷ Number (unsigned_abs z) ∷ rest) 0 refl calm_minus s in
-      let made = constant_step true (nothing levels) (unsigned_abs z) 1 rest (sum bytes sort inner None 0 ts) (sym (nothing_long levels)) (nothing_small levels) (size_small z h) (omega arith) calm before in
+      let made = constant_step true (nothing levels) (unsigned_abs z) 1 rest (sum bytes sort inner ending None 0 ts) (sym (nothing_long levels)) (nothing_small levels) (size_small z h) (omega arith) calm before in
       (2, rw is at made)
 
   abbrev FirstRead : List ℤ → Type 0
   FirstRead coefs = (k : ℕ) (z : ℤ) (ts : List Token) (rest : List Symbol) → levels ≡ k + length coefs → list_all (is_at_most most_affine) coefs ≡ true → is_at_most most_affine z ≡ true
-      → 2 * length coefs + 10 < 256 → Calm rest → Sees bytes ts (terms_symbols letters true k coefs z ++ rest) → (n : ℕ) × Summed (form (nothing k ++ coefs) z) n rest (sum bytes sort inner None 0 ts)
+      → 2 * length coefs + 10 < 256 → Calm ending rest → Sees bytes ts (terms_symbols letters true k coefs z ++ rest) → (n : ℕ) × Summed (form (nothing k ++ coefs) z) n rest (sum bytes sort inner ending None 0 ts)
 
   coef_first : (below : Bool) (c : ℤ) (cs : List ℤ) (k : ℕ) (z : ℤ) (ts : List Token) (rest : List Symbol) → is_below c ≡ below → levels ≡ k + suc (length cs)
-      → is_at_most most_affine c ≡ true → list_all (is_at_most most_affine) cs ≡ true → is_at_most most_affine z ≡ true → 2 * length cs + 10 < 256 → Calm rest
+      → is_at_most most_affine c ≡ true → list_all (is_at_most most_affine) cs ≡ true → is_at_most most_affine z ≡ true → 2 * length cs + 10 < 256 → Calm ending rest
       → Sees bytes ts (lead true below ++ (times_if (nat_eq (unsigned_abs c) 1) (unsigned_abs c) (iterator_name letters k) ++ (terms_symbols letters false (k + 1) cs z ++ rest)))
-      → (m : ℕ) × (m ≤ 3) × Summed (form (nothing k ++ c ∷ nothing (length cs)) (pos 0)) m (terms_symbols letters false (k + 1) cs z ++ rest) (sum bytes sort inner None 0 ts)
+      → (m : ℕ) × (m ≤ 3) × Summed (form (nothing k ++ c ∷ nothing (length cs)) (pos 0)) m (terms_symbols letters false (k + 1) cs z ++ rest) (sum bytes sort inner ending None 0 ts)
   coef_first false c cs k z ts rest e f first smalls h l calm s =
       let size = unsigned_abs c in
       let alone = nat_eq size 1 in
@@ -325,7 +327,7 @@ module _ (bytes : List ℕ) (names : Names) (levels letters left : ℕ) (iterato
       let is : pos size ≡ c = rw e at (amount_is c) in
       let g = times_product alone 0 ts more size k (length cs) refl (omega arith) f (size_small c first) (calm_terms (k + 1) cs z rest calm) s in
       let q : Part → Type 0 = IsForm (form (unit (pos size) k (length cs)) (pos 0)) in
-      let made = sum_begun bytes sort inner None q (0 + extra alone) (0 + extra alone) 0 ts more g in
+      let made = sum_begun bytes sort inner None ending q (0 + extra alone) (0 + extra alone) 0 ts more (calm_terms (k + 1) cs z rest calm).follows g in
       (0 + extra alone, least_extra alone, rw is at made)
   coef_first true c cs k z ts rest e f first smalls h l calm s =
       let size = unsigned_abs c in
@@ -333,16 +335,16 @@ module _ (bytes : List ℕ) (names : Names) (levels letters left : ℕ) (iterato
       let more = terms_symbols letters false (k + 1) cs z ++ rest in
       let is : amount true size ≡ c = rw e at (amount_is c) in
       let behind : List Symbol = Mark signs.Minus ∷ (times_if alone size (iterator_name letters k) ++ more) in
-      let calm_minus : Calm behind = record { stars = refl; brackets = refl } in
+      let calm_minus : Calm ending behind = record { stars = refl; brackets = refl; follows = refl } in
       let before = number_first 0 ts behind 0 refl calm_minus s in
       let whole : nothing levels ≡ nothing k ++ nothing (suc (length cs)) = ap nothing f ∙ sym (nothing_joined k (suc (length cs))) in
-      let there : Summed (form (nothing k ++ nothing (suc (length cs))) (pos 0)) 1 behind (sum bytes sort inner None 0 ts) = rw whole at before in
-      let made = coef_step alone true (nothing k) k (length cs) size 1 more (sum bytes sort inner None 0 ts) refl (sym (nothing_long k)) f (nothing_small k) (size_small c first) (omega arith) (calm_terms (k + 1) cs z rest calm) there in
+      let there : Summed (form (nothing k ++ nothing (suc (length cs))) (pos 0)) 1 behind (sum bytes sort inner ending None 0 ts) = rw whole at before in
+      let made = coef_step alone true (nothing k) k (length cs) size 1 more (sum bytes sort inner ending None 0 ts) refl (sym (nothing_long k)) f (nothing_small k) (size_small c first) (omega arith) (calm_terms (k + 1) cs z rest calm) there in
       (1 + extra alone, more_extra alone, rw is at made)
 
   choose_first : (skip : Bool) (c : ℤ) (cs : List ℤ) → FirstRead cs → (k : ℕ) (z : ℤ) (ts : List Token) (rest : List Symbol) → is_none c ≡ skip → levels ≡ k + suc (length cs)
-      → is_at_most most_affine c ≡ true → list_all (is_at_most most_affine) cs ≡ true → is_at_most most_affine z ≡ true → 2 * length cs + 12 < 256 → Calm rest
-      → Sees bytes ts ((coef_if skip letters true c k ++ terms_symbols letters skip (k + 1) cs z) ++ rest) → (n : ℕ) × Summed (form (nothing k ++ c ∷ cs) z) n rest (sum bytes sort inner None 0 ts)
+      → is_at_most most_affine c ≡ true → list_all (is_at_most most_affine) cs ≡ true → is_at_most most_affine z ≡ true → 2 * length cs + 12 < 256 → Calm ending rest
+      → Sees bytes ts ((coef_if skip letters true c k ++ terms_symbols letters skip (k + 1) cs z) ++ rest) → (n : ℕ) × Summed (form (nothing k ++ c ∷ cs) z) n rest (sum bytes sort inner ending None 0 ts)
   choose_first true c cs again k z ts rest none f first smalls h l calm s =
       let zero : c ≡ pos 0 = none_is c none in
       let made = again (k + 1) z ts rest (omega arith) smalls h (omega arith) calm s in
@@ -355,13 +357,13 @@ module _ (bytes : List ℕ) (names : Names) (levels letters left : ℕ) (iterato
       append_assoc (lead true (is_below c) ++ times) terms rest ∙ append_assoc (lead true (is_below c)) times (terms ++ rest) in
       let made = coef_first (is_below c) c cs k z ts rest refl f first smalls h (omega arith) calm (s ∙ flat) in
       let moved : nothing k ++ c ∷ nothing (length cs) ≡ (nothing k ++ c ∷ []) ++ nothing (length cs) = rw append_assoc refl in
-      let there : Summed (form ((nothing k ++ c ∷ []) ++ nothing (length cs)) (pos 0)) made.0 (terms ++ rest) (sum bytes sort inner None 0 ts) = rw moved at made.2 in
+      let there : Summed (form ((nothing k ++ c ∷ []) ++ nothing (length cs)) (pos 0)) made.0 (terms ++ rest) (sum bytes sort inner ending None 0 ts) = rw moved at made.2 in
       let joined : (nothing k ++ c ∷ []) ++ cs ≡ nothing k ++ c ∷ cs = append_assoc (nothing k) (c ∷ []) cs in
       let n = nothing_long k in
       let long : k + 1 ≡ length (nothing k ++ c ∷ []) = simp length-append (omega (arith, n)) in
       let fits : list_all (is_at_most most_affine) (nothing k ++ c ∷ []) ≡ true = rw (list_all-append, nothing_small k, first) refl in
       let small = made.1 in
-      let more = more_read cs (nothing k ++ c ∷ []) (k + 1) z made.0 rest (sum bytes sort inner None 0 ts) long (omega arith) fits smalls h (omega (arith, small)) calm there in
+      let more = more_read cs (nothing k ++ c ∷ []) (k + 1) z made.0 rest (sum bytes sort inner ending None 0 ts) long (omega arith) fits smalls h (omega (arith, small)) calm there in
       rw joined at more
 
   first_read : (coefs : List ℤ) → FirstRead coefs
@@ -374,14 +376,14 @@ module _ (bytes : List ℕ) (names : Names) (levels letters left : ℕ) (iterato
       let parts = and_parts (is_at_most most_affine c) (list_all (is_at_most most_affine) cs) smalls in
       choose_first (is_none c) c cs (first_read cs) k z ts rest refl f parts.0 parts.1 h (omega arith) calm s
 
-  pub form_given : (f : Form) (ts : List Token) (rest : List Symbol) → levels ≡ length f.coefs → levels ≤ 6 → IsSmall f → Calm rest → term_sign (front rest) ≡ None
-      → Sees bytes ts (form_symbols letters f.coefs f.constant ++ rest) → Given (Valued bytes f rest) (form_at bytes names levels left ts)
+  pub form_given : (f : Form) (ts : List Token) (rest : List Symbol) → levels ≡ length f.coefs → levels ≤ 6 → IsSmall f → Calm ending rest → term_sign (front rest) ≡ None
+      → Sees bytes ts (form_symbols letters f.coefs f.constant ++ rest) → Given (Valued bytes f rest) (form_at bytes names levels left ending ts)
   unfolding form_at
   form_given f ts rest e l small calm ends s =
       let made = first_read f.coefs 0 f.constant ts rest (omega arith) small.0 small.1 (omega arith) calm s in
-      let done : Given (AtPart (IsForm f) made.0 rest) (sum bytes sort inner None 0 ts) = sum_ends bytes sort inner None (IsForm f) made.0 made.0 rest (sum bytes sort inner None 0 ts) ends made.1 in
-      let whole : Given (λ x. IsForm f x.0 × Sees bytes x.1 rest) (expression bytes sort left ts) =
-      given_bind (AtPart (IsForm f) made.0 rest) (λ x. IsForm f x.0 × Sees bytes x.1 rest) (sum bytes sort inner None 0 ts) (λ x. Ok (x.0, x.2)) done (λ x g.
+      let done : Given (AtPart (IsForm f) made.0 rest) (sum bytes sort inner ending None 0 ts) = sum_ends bytes sort inner None ending (IsForm f) made.0 made.0 rest (sum bytes sort inner ending None 0 ts) ends made.1 in
+      let whole : Given (λ x. IsForm f x.0 × Sees bytes x.1 rest) (expression bytes sort left ending ts) =
+      given_bind (AtPart (IsForm f) made.0 rest) (λ x. IsForm f x.0 × Sees bytes x.1 rest) (sum bytes sort inner ending None 0 ts) (λ x. Ok (x.0, x.2)) done (λ x g.
       given_ok (λ x. IsForm f x.0 × Sees bytes x.1 rest) (x.0, x.2) (g.0, g.2)) in
-      given_bind (λ x. IsForm f x.0 × Sees bytes x.1 rest) (Valued bytes f rest) (expression bytes sort left ts) (λ p. Ok (p.0.form, p.1)) whole (λ p g.
+      given_bind (λ x. IsForm f x.0 × Sees bytes x.1 rest) (Valued bytes f rest) (expression bytes sort left ending ts) (λ p. Ok (p.0.form, p.1)) whole (λ p g.
       given_ok (Valued bytes f rest) (p.0.form, p.1) g)

@@ -15,6 +15,8 @@ use Rattle.ch_lex.specs.declared.token.Sign.TheVariants as signs
 use Rattle.ch_lex.specs.declared.token.Token.{Token}
 use Rattle.ch_nest.specs.Limits.{most_affine, most_forms, most_nesting}
 use Rattle.ch_nest.specs.Shape.{are_few, box_of, coefs_fit, head_fits, high_end, highs_fit, is_at_most, is_small, low_end, lows_fit}
+use Rattle.ch_nestparse.specs.declared.ahead.Ending.{Ending}
+use Rattle.ch_nestparse.specs.declared.ahead.Ending.TheVariants as endings
 use Rattle.ch_nestparse.specs.declared.ahead.Look.{Look}
 use Rattle.ch_nestparse.specs.declared.ahead.Look.TheVariants as looks
 use Rattle.ch_nestparse.specs.declared.heads.Ends.{Ends}
@@ -74,16 +76,16 @@ whole_head : (m n : List ℕ) (a b c d : Ends) → m ≡ n → a ≡ b → c ≡
 whole_head m n a b c d e f g = ap (λ (x : List ℕ). head_of x a c) e ∙ ap (λ (x : Ends). head_of n x c) f ∙ ap (λ (x : Ends). head_of n b x) g
 
 module _ (bytes : List ℕ) (names : Names) (letters levels : ℕ) (iterators : (k : ℕ) → k < levels → find_name (iterator_name letters k) names ≡ Some (Iterator k)) (few : levels ≤ 6) where
-  end_given : (raises : Bool) (f : Form) (ts : List Token) (rest : List Symbol) → EndFits levels raises f ≡ true → Calm rest → term_sign (front rest) ≡ None → Sees bytes ts (end_symbols letters raises f ++ rest)
-      → Given (Valued bytes (raised_form raises f) rest) (form_at bytes names levels most_nesting ts)
-  end_given raises f ts rest h calm ends sees =
+  end_given : (ending : Ending) (raises : Bool) (f : Form) (ts : List Token) (rest : List Symbol) → EndFits levels raises f ≡ true → Calm ending rest → term_sign (front rest) ≡ None → Sees bytes ts (end_symbols letters raises f ++ rest)
+      → Given (Valued bytes (raised_form raises f) rest) (form_at bytes names levels most_nesting ending ts)
+  end_given ending raises f ts rest h calm ends sees =
       let parts = and_parts (coefs_fit levels f) (is_at_most most_affine (raised_if raises f.constant)) h in
       let coefs = and_parts (nat_eq (length f.coefs) levels) (list_all (is_at_most most_affine) f.coefs) parts.0 in
-      form_given bytes names levels letters most_nesting iterators (raised_form raises f) ts rest (sym (eqb-true (length f.coefs) levels coefs.0)) few (coefs.1, parts.1) calm ends sees
+      form_given bytes names levels letters most_nesting ending iterators (raised_form raises f) ts rest (sym (eqb-true (length f.coefs) levels coefs.0)) few (coefs.1, parts.1) calm ends sees
 
-  calm_commas : (raises : Bool) (fs : List Form) (rest : List Symbol) → Calm (flat_map (comma_end letters raises) fs ++ (Mark signs.RightParen ∷ rest))
-  calm_commas raises [] rest = record { stars = refl; brackets = refl }
-  calm_commas raises (f ∷ fs) rest = record { stars = refl; brackets = refl }
+  calm_commas : (raises : Bool) (fs : List Form) (rest : List Symbol) → Calm endings.Listed (flat_map (comma_end letters raises) fs ++ (Mark signs.RightParen ∷ rest))
+  calm_commas raises [] rest = record { stars = refl; brackets = refl; follows = refl }
+  calm_commas raises (f ∷ fs) rest = record { stars = refl; brackets = refl; follows = refl }
 
   ends_commas : (raises : Bool) (fs : List Form) (rest : List Symbol) → term_sign (front (flat_map (comma_end letters raises) fs ++ (Mark signs.RightParen ∷ rest))) ≡ None
   ends_commas raises [] rest = refl
@@ -112,8 +114,8 @@ module _ (bytes : List ℕ) (names : Names) (letters levels : ℕ) (iterators : 
       (λ _. more_at bytes names levels found ts >>= λ x. repeated (next_is_comma bytes) (more_at bytes names levels) k x.0 x.1) (λ _. Ok (found, ts))
       (ap (is_sign signs.Comma) (seen_front bytes ts (Mark signs.Comma ∷ (end_symbols letters raises f ++ after)) flat))
       (given_bind one goal (more_at bytes names levels found ts) (λ x. repeated (next_is_comma bytes) (more_at bytes names levels) k x.0 x.1)
-      (given_bind (Valued bytes (raised_form raises f) after) one (form_at bytes names levels most_nesting (drop 1 ts)) (λ form. Ok (found ++ form.0 ∷ [], form.1))
-      (end_given raises f (drop 1 ts) after parts.0 (calm_commas raises fs rest) (ends_commas raises fs rest) behind) (λ form a.
+      (given_bind (Valued bytes (raised_form raises f) after) one (form_at bytes names levels most_nesting endings.Listed (drop 1 ts)) (λ form. Ok (found ++ form.0 ∷ [], form.1))
+      (end_given endings.Listed raises f (drop 1 ts) after parts.0 (calm_commas raises fs rest) (ends_commas raises fs rest) behind) (λ form a.
       given_ok one (found ++ form.0 ∷ [], form.1) (ap (λ (x : Form). found ++ x ∷ []) a.0, a.1))) (λ x a.
       let again = mores_given raises fs k x.0 x.1 rest (omega arith) parts.1 a.1 in
       let whole : x.0 ++ map (raised_form raises) fs ≡ found ++ map (raised_form raises) (f ∷ fs) =
@@ -131,7 +133,7 @@ module _ (bytes : List ℕ) (names : Names) (letters levels : ℕ) (iterators : 
       let goal = Valued bytes all rest in
       let closes : List Symbol = Mark signs.RightParen ∷ rest in
       given_bind (Passed bytes (end_symbols letters raises f ++ after)) goal (sign_at bytes P1 signs.LeftParen ts) _ (sign_given bytes P1 signs.LeftParen ts (end_symbols letters raises f ++ after) sees) (λ us a.
-      given_bind (Valued bytes (raised_form raises f) after) goal (form_at bytes names levels most_nesting us) _ (end_given raises f us after parts.0 (calm_commas raises fs rest) (ends_commas raises fs rest) a) (λ first b.
+      given_bind (Valued bytes (raised_form raises f) after) goal (form_at bytes names levels most_nesting endings.Listed us) _ (end_given endings.Listed raises f us after parts.0 (calm_commas raises fs rest) (ends_commas raises fs rest) a) (λ first b.
       let found : List Form = first.0 ∷ [] in
       let whole : found ++ map (raised_form raises) fs ≡ all = ap (λ (x : Form). x ∷ map (raised_form raises) fs) b.0 in
       given_bind (Valued bytes (found ++ map (raised_form raises) fs) closes) goal (repeated (next_is_comma bytes) (more_at bytes names levels) 3 found first.1) _ (mores_given raises fs 3 found first.1 rest l parts.1 b.1) (λ x c.
@@ -142,7 +144,7 @@ module _ (bytes : List ℕ) (names : Names) (letters levels : ℕ) (iterators : 
       given_ok goal (y.0, vs) (d.0, e))))))
 
   ends_given : (word : Keyword) (raises : Bool) (fs : List Form) (ts : List Token) (rest : List Symbol) → list_all (EndFits levels raises) fs ≡ true → 1 ≤ length fs → length fs ≤ 4
-      → Calm rest → term_sign (front rest) ≡ None → Sees bytes ts (ends_symbols letters word raises fs ++ rest) → Given (Valued bytes (map (raised_form raises) fs) rest) (ends_at bytes word names levels ts)
+      → Calm endings.Semicolon rest → term_sign (front rest) ≡ None → Sees bytes ts (ends_symbols letters word raises fs ++ rest) → Given (Valued bytes (map (raised_form raises) fs) rest) (ends_at bytes word names levels ts)
   unfolding ends_at single_at
   ends_given word raises [] ts rest h some l calm ends sees = absurd (omega arith)
   ends_given word raises (f ∷ []) ts rest h some l calm ends sees =
@@ -150,7 +152,7 @@ module _ (bytes : List ℕ) (names : Names) (letters levels : ℕ) (iterators : 
       let goal = Valued bytes (raised_form raises f ∷ []) rest in
       given_other goal (begins bytes word ts) (λ _. several_at bytes names levels (drop 1 ts)) (λ _. single_at bytes names levels ts)
       (ap (is_keyword word) (seen_front bytes ts (end_symbols letters raises f ++ rest) sees) ∙ terms_word word letters 0 f.coefs (raised_if raises f.constant) rest)
-      (given_bind (Valued bytes (raised_form raises f) rest) goal (form_at bytes names levels most_nesting ts) (λ form. Ok (form.0 ∷ [], form.1)) (end_given raises f ts rest fits calm ends sees) (λ form a.
+      (given_bind (Valued bytes (raised_form raises f) rest) goal (form_at bytes names levels most_nesting endings.Semicolon ts) (λ form. Ok (form.0 ∷ [], form.1)) (end_given endings.Semicolon raises f ts rest fits calm ends sees) (λ form a.
       given_ok goal (form.0 ∷ [], form.1) (ap (λ (x : Form). x ∷ []) a.0, a.1)))
   ends_given word raises (f ∷ g ∷ fs) ts rest h some l calm ends sees =
       let more : List Symbol = flat_map (comma_end letters raises) (g ∷ fs) in
@@ -184,7 +186,7 @@ module _ (bytes : List ℕ) (names : Names) (letters levels : ℕ) (iterators : 
   lasts_raised strict (f ∷ fs) = rw (last_raised strict f, lasts_raised strict fs) refl
 
   low_given : (boxes : List Range) (at : ℕ) (lows : List Form) (ts : List Token) (rest : List Symbol) → levels ≡ length boxes → lows_fit levels lows ≡ true → is_at_most most_affine (low_end boxes lows) ≡ true
-      → Calm rest → term_sign (front rest) ≡ None → Sees bytes ts (lows_symbols letters lows ++ rest)
+      → Calm endings.Semicolon rest → term_sign (front rest) ≡ None → Sees bytes ts (lows_symbols letters lows ++ rest)
       → Given (Valued bytes (record { forms = lows; end = low_end boxes lows }) rest) (low_at bytes names boxes at ts)
   unfolding low_at
   low_given boxes at lows ts rest e h small calm ends sees =
@@ -204,7 +206,7 @@ module _ (bytes : List ℕ) (names : Names) (letters levels : ℕ) (iterators : 
   strict_front false at ts = refl
 
   high_given : (boxes : List Range) (at : ℕ) (low : ℤ) (highs : List Form) (ts : List Token) (rest : List Symbol) → levels ≡ length boxes → highs_fit levels highs ≡ true
-      → is_at_most most_affine (high_end boxes low highs) ≡ true → Calm rest → term_sign (front rest) ≡ None → Sees bytes ts (highs_symbols letters highs ++ rest)
+      → is_at_most most_affine (high_end boxes low highs) ≡ true → Calm endings.Semicolon rest → term_sign (front rest) ≡ None → Sees bytes ts (highs_symbols letters highs ++ rest)
       → Given (Valued bytes (record { forms = highs; end = high_end boxes low highs }) rest) (high_at bytes names boxes at low ts)
   unfolding high_at
   high_given boxes at low highs ts rest e h small calm ends sees =
@@ -261,7 +263,7 @@ module _ (bytes : List ℕ) (names : Names) (letters levels : ℕ) (iterators : 
       let flat : Sees bytes ts (Mark signs.LeftParen ∷ Name name ∷ Mark signs.Equals ∷ second) =
       sees ∙ append_assoc (beginning_symbols letters levels lows ++ limit_symbols letters levels highs) (step_symbols letters levels) rest
       ∙ append_assoc (beginning_symbols letters levels lows) (limit_symbols letters levels highs) sixth in
-      let calm_sign : (xs : List Symbol) → Calm (Mark signs.Semicolon ∷ xs) = λ xs. record { stars = refl; brackets = refl } in
+      let calm_sign : (xs : List Symbol) → Calm endings.Semicolon (Mark signs.Semicolon ∷ xs) = λ xs. record { stars = refl; brackets = refl; follows = refl } in
       given_bind (Passed bytes (Name name ∷ Mark signs.Equals ∷ second)) goal (sign_at bytes P1 signs.LeftParen ts) _ (sign_given bytes P1 signs.LeftParen ts (Name name ∷ Mark signs.Equals ∷ second) flat) (λ paren a.
       given_bind (Valued bytes name (Mark signs.Equals ∷ second)) goal (fresh_at bytes names paren) _ (fresh_given bytes names name paren (Mark signs.Equals ∷ second) fresh a) (λ n b.
       given_bind (Passed bytes second) goal (sign_at bytes P1 signs.Equals n.1) _ (sign_given bytes P1 signs.Equals n.1 second b.1) (λ equals c.

@@ -189,7 +189,7 @@ module _ (bytes : List ℕ) (arrays : List ArrayDecl) (letters : ℕ) (shapes : 
       given_bind (Valued bytes a equals) goal (access_at bytes names levels most_nesting x.0 x.1 n.1) _ read (λ write d.
       given_bind (Passed bytes value) goal (sign_at bytes P1 signs.Equals write.1) _ (sign_given bytes P1 signs.Equals write.1 value d.1) (λ us e.
       given_bind (Valued bytes body.right ends) goal (right_at bytes names levels us) _
-      (right_given bytes names arrays letters levels known shapes few body.right us ends right.0 (leb-true (operands body.right) most_operands deep.0) deep.1 lets (record { stars = refl; brackets = refl }) refl e) (λ r f.
+      (right_given bytes names arrays letters levels known shapes few body.right us ends right.0 (leb-true (operands body.right) most_operands deep.0) deep.1 lets (record { stars = refl; brackets = refl; follows = refl }) refl e) (λ r f.
       given_bind (Passed bytes rest) goal (sign_at bytes P1 signs.Semicolon r.1) _ (sign_given bytes P1 signs.Semicolon r.1 rest f.1) (λ vs g.
       given_ok goal (added found (Assign found.1 (record { write = write.0; right = r.0 })) (found.1 + 1), vs)
       (ap (λ (x : Body). added found (Assign found.1 x) (found.1 + 1)) (whole_body write.0 a r.0 body.right d.0 f.0), g)))))))

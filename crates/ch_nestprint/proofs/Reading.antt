@@ -7,12 +7,14 @@ use Rattle.ch_lex.specs.declared.token.Sign.{Sign}
 use Rattle.ch_lex.specs.declared.token.Sign.TheVariants as signs
 use Rattle.ch_lex.specs.declared.token.Token.{Token}
 use Rattle.ch_nest.specs.Limits.{most_operands}
+use Rattle.ch_nestparse.specs.declared.ahead.Ending.{Ending}
+use Rattle.ch_nestparse.specs.declared.ahead.Ending.TheVariants as endings
 use Rattle.ch_nestparse.specs.declared.ahead.Look.{Look}
 use Rattle.ch_nestparse.specs.declared.ahead.Look.TheVariants as looks
 use Rattle.ch_nestparse.specs.declared.ahead.Opening.{Opening}
 use Rattle.ch_nestparse.specs.declared.ahead.Opening.TheVariants as openings
-use Rattle.ch_nestparse.specs.Expressions.{Counted, Reader, Sort, begins_operand, behind, behind_minus, between_parens, chain, counted_operand, factor, factor_sign, more_factors, more_terms, opened, opening, product, star_after, step, sum, term, term_sign, unary}
-use Rattle.ch_nestparse.specs.Read.{◌>>=◌, place, seen, sign_at}
+use Rattle.ch_nestparse.specs.Expressions.{Counted, Reader, Sort, begins_operand, behind, behind_minus, between_parens, chain, counted_operand, factor, factor_sign, fits_behind, more_factors, more_terms, opened, opening, product, star_after, step, sum, summand, term, term_sign, unary}
+use Rattle.ch_nestparse.specs.Read.{◌>>=◌, guarded, place, seen, sign_at}
 use Rattle.ch_nestprint.specs.declared.symbol.Symbol.{Symbol}
 use Rattle.ch_nestprint.specs.declared.symbol.Symbol.TheVariants.{Mark}
 use Rattle.ch_nestprint.proofs.Seeing.{Given, Sees, Passed, front, given_bind, given_guarded, given_ok, behind_front, seen_front, sign_given}
@@ -48,15 +50,25 @@ module _ {X : Type 0} (bytes : List ℕ) (sort : Sort X) where
     product_ends Q m used rest r h g =
         (g.1, g.3 ∙ chain_stop (λ y. factor_sign (seen bytes y.2)) (factor bytes sort inner star) g.0 g.1 (ap factor_sign (seen_front bytes g.1.2 rest g.4.2) ∙ h), g.4)
 
-    pub sum_begun : (Q : X → Type 0) (m used n : ℕ) (ts : List Token) (rest : List Symbol) → Given (At Q m rest) (product bytes sort inner star n ts)
-        → Reached Q m used rest (more_terms bytes sort inner star) (sum bytes sort inner star n ts)
-    unfolding sum
-    sum_begun Q m used n ts rest g = (256, g.0, omega arith, ap (λ (r : Counted X). r >>= more_terms bytes sort inner star most_operands) g.1, g.2)
+    -- a part of a sum, with what may stand behind it
+    summand_given : (ending : Ending) (Q : X → Type 0) (m n : ℕ) (ts : List Token) (rest : List Symbol) → fits_behind ending (front rest) ≡ true → Given (At Q m rest) (product bytes sort inner star n ts)
+        → Given (At Q m rest) (summand bytes sort inner ending star n ts)
+    unfolding summand
+    summand_given ending Q m n ts rest follows g =
+        given_bind (At Q m rest) (At Q m rest) (product bytes sort inner star n ts) (λ x. guarded (fits_behind ending (seen bytes x.2)) P1 (place bytes x.2) (λ _. Ok x)) g (λ x f.
+        given_guarded (At Q m rest) (fits_behind ending (seen bytes x.2)) P1 (place bytes x.2) (λ _. Ok x) (ap (fits_behind ending) (seen_front bytes x.2 rest f.2) ∙ follows) (given_ok (At Q m rest) x f))
 
-    pub sum_ends : (Q : X → Type 0) (m used : ℕ) (rest : List Symbol) (r : Counted X) → term_sign (front rest) ≡ None
-        → Reached Q m used rest (more_terms bytes sort inner star) r → Given (At Q m rest) r
-    sum_ends Q m used rest r h g =
-        (g.1, g.3 ∙ chain_stop (λ y. term_sign (seen bytes y.2)) (term bytes sort inner star) g.0 g.1 (ap term_sign (seen_front bytes g.1.2 rest g.4.2) ∙ h), g.4)
+    pub sum_begun : (ending : Ending) (Q : X → Type 0) (m used n : ℕ) (ts : List Token) (rest : List Symbol) → fits_behind ending (front rest) ≡ true
+        → Given (At Q m rest) (product bytes sort inner star n ts) → Reached Q m used rest (more_terms bytes sort inner ending star) (sum bytes sort inner ending star n ts)
+    unfolding sum
+    sum_begun ending Q m used n ts rest follows g =
+        let h = summand_given ending Q m n ts rest follows g in
+        (256, h.0, omega arith, ap (λ (r : Counted X). r >>= more_terms bytes sort inner ending star most_operands) h.1, h.2)
+
+    pub sum_ends : (ending : Ending) (Q : X → Type 0) (m used : ℕ) (rest : List Symbol) (r : Counted X) → term_sign (front rest) ≡ None
+        → Reached Q m used rest (more_terms bytes sort inner ending star) r → Given (At Q m rest) r
+    sum_ends ending Q m used rest r h g =
+        (g.1, g.3 ∙ chain_stop (λ y. term_sign (seen bytes y.2)) (term bytes sort inner ending star) g.0 g.1 (ap term_sign (seen_front bytes g.1.2 rest g.4.2) ∙ h), g.4)
 
     -- what a part behind a sign gives
     part_read : (P Q R : X → Type 0) (m n : ℕ) (s : Sign) (more rest : List Symbol) (part : X → ℕ → ℕ → List Token → Counted X) (x : X × ℕ × List Token) → At P m (Mark s ∷ more) x
@@ -81,15 +93,15 @@ module _ {X : Type 0} (bytes : List ℕ) (sort : Sort X) where
         reads joins in
         (k, next.0, omega arith, is ∙ chain_step (λ y. factor_sign (seen bytes y.2)) (factor bytes sort inner star) k x next.0 signs.Star (ap factor_sign (seen_front bytes x.2 (Mark signs.Star ∷ more) at.2)) next.1, next.2)
 
-    pub term_on : (P Q R : X → Type 0) (m n used all : ℕ) (s : Sign) (more rest : List Symbol) (r : Counted X) → used < 256 → used < all → term_sign (looks.Sign s) ≡ Some s
-        → Reached P m used (Mark s ∷ more) (more_terms bytes sort inner star) r
+    pub term_on : (ending : Ending) (P Q R : X → Type 0) (m n used all : ℕ) (s : Sign) (more rest : List Symbol) (r : Counted X) → used < 256 → used < all → term_sign (looks.Sign s) ≡ Some s → fits_behind ending (front rest) ≡ true
+        → Reached P m used (Mark s ∷ more) (more_terms bytes sort inner ending star) r
         → ((us : List Token) → Sees bytes us more → Given (At Q n rest) (product bytes sort inner star m us))
-        → ((at : ℕ) (a b : X) → P a → Q b → Given R (sort.joined s at a b)) → Reached R n all rest (more_terms bytes sort inner star) r
+        → ((at : ℕ) (a b : X) → P a → Q b → Given R (sort.joined s at a b)) → Reached R n all rest (more_terms bytes sort inner ending star) r
     unfolding term
-    term_on P Q R m n used all s more rest r few grows sign (zero, x, left, is, at) reads joins = absurd (omega arith)
-    term_on P Q R m n used all s more rest r few grows sign (suc k, x, left, is, at) reads joins =
-        let next = part_read P Q R m n s more rest (λ y here. product bytes sort inner star) x at (λ a p here us sees. reads us sees) joins in
-        (k, next.0, omega arith, is ∙ chain_step (λ y. term_sign (seen bytes y.2)) (term bytes sort inner star) k x next.0 s (ap term_sign (seen_front bytes x.2 (Mark s ∷ more) at.2) ∙ sign) next.1, next.2)
+    term_on ending P Q R m n used all s more rest r few grows sign follows (zero, x, left, is, at) reads joins = absurd (omega arith)
+    term_on ending P Q R m n used all s more rest r few grows sign follows (suc k, x, left, is, at) reads joins =
+        let next = part_read P Q R m n s more rest (λ y here. summand bytes sort inner ending star) x at (λ a p here us sees. summand_given ending Q n m us rest follows (reads us sees)) joins in
+        (k, next.0, omega arith, is ∙ chain_step (λ y. term_sign (seen bytes y.2)) (term bytes sort inner ending star) k x next.0 s (ap term_sign (seen_front bytes x.2 (Mark s ∷ more) at.2) ∙ sign) next.1, next.2)
 
   -- an operand
   pub counted_given : (Q : X → Type 0) (left : ℕ) (star : Option ℕ) (n : ℕ) (ts : List Token) (rest : List Symbol) → begins_operand (seen bytes ts) ≡ true → n < 256
@@ -135,12 +147,12 @@ module _ {X : Type 0} (bytes : List ℕ) (sort : Sort X) where
       (c.0, ap (λ (o : Opening). opens o left star m ts) (ap opening (seen_front bytes ts (Mark signs.Minus ∷ more) h)) ∙ c.1, c.2)
 
   pub parens_read : (Q : X → Type 0) (left : ℕ) (star : Option ℕ) (m n : ℕ) (ts : List Token) (more rest : List Symbol) → Sees bytes ts (Mark signs.LeftParen ∷ more)
-      → ((us : List Token) → Sees bytes us more → Given (At Q n (Mark signs.RightParen ∷ rest)) (sum bytes sort (unary bytes sort left) star m us))
+      → ((us : List Token) → Sees bytes us more → Given (At Q n (Mark signs.RightParen ∷ rest)) (sum bytes sort (unary bytes sort left) endings.Paren star m us))
       → Given (At Q n rest) (unary bytes sort (suc left) star m ts)
   unfolding unary between_parens
   parens_read Q left star m n ts more rest h reads =
       let c : Given (At Q n rest) (between_parens bytes sort (unary bytes sort left) star m ts) =
-      given_bind (At Q n (Mark signs.RightParen ∷ rest)) (At Q n rest) (sum bytes sort (unary bytes sort left) star m (drop 1 ts)) (λ x. sign_at bytes P1 signs.RightParen x.2 >>= λ us. Ok (x.0, x.1, us))
+      given_bind (At Q n (Mark signs.RightParen ∷ rest)) (At Q n rest) (sum bytes sort (unary bytes sort left) endings.Paren star m (drop 1 ts)) (λ x. sign_at bytes P1 signs.RightParen x.2 >>= λ us. Ok (x.0, x.1, us))
       (reads (drop 1 ts) (behind_front bytes ts (Mark signs.LeftParen) more h)) (λ x g.
       given_bind (Passed bytes rest) (At Q n rest) (sign_at bytes P1 signs.RightParen x.2) (λ us. Ok (x.0, x.1, us)) (sign_given bytes P1 signs.RightParen x.2 rest g.2) (λ us f.
       given_ok (At Q n rest) (x.0, x.1, us) (g.0, g.1, f))) in

@@ -18,11 +18,13 @@ use Rattle.ch_nest.specs.declared.nest.ArrayDecl.{ArrayDecl}
 use Rattle.ch_nest.specs.declared.nest.Expr.{Expr}
 use Rattle.ch_nest.specs.declared.nest.Expr.TheVariants as exprs
 use Rattle.ch_nest.specs.declared.nest.Sub.{Sub}
+use Rattle.ch_nestparse.specs.declared.ahead.Ending.{Ending}
+use Rattle.ch_nestparse.specs.declared.ahead.Ending.TheVariants as endings
 use Rattle.ch_nestparse.specs.declared.ahead.Look.{Look}
 use Rattle.ch_nestparse.specs.declared.ahead.Look.TheVariants as looks
 use Rattle.ch_nestparse.specs.declared.scope.Named.{Named}
 use Rattle.ch_nestparse.specs.declared.scope.Named.TheVariants.{Let, Array, Iterator}
-use Rattle.ch_nestparse.specs.Expressions.{Sort, begins_operand, factor_sign, more_factors, more_terms, product, star_after, sum, term_sign, unary}
+use Rattle.ch_nestparse.specs.Expressions.{Sort, begins_operand, factor_sign, fits_behind, more_factors, more_terms, product, star_after, sum, term_sign, unary}
 use Rattle.ch_nestparse.specs.Forms.{form_at}
 use Rattle.ch_nestparse.specs.Read.{◌>>=◌, Names, find_name, guarded, is_sign, next_is, place, repeated, seen, sign_at, text_at}
 use Rattle.ch_nestparse.specs.Rights.{access_at, access_right, always, joined_right, named_right, operand_right, plain_right, right_at, rights, sub_at}
@@ -98,10 +100,10 @@ module _ (bytes : List ℕ) (names : Names) (arrays : List ArrayDecl) (letters l
       let flat : Sees bytes ts (Mark signs.LeftBracket ∷ (inner ++ (Mark signs.RightBracket ∷ rest))) =
       g ∙ ap (λ (xs : List Symbol). Mark signs.LeftBracket ∷ xs) (append_assoc inner (Mark signs.RightBracket ∷ []) rest) in
       let behind : List Symbol = Mark signs.RightBracket ∷ rest in
-      given_bind (Passed bytes (inner ++ behind)) (Valued bytes (found ++ s ∷ []) rest) (sign_at bytes P1 signs.LeftBracket ts) (λ us. form_at bytes names levels left us >>= λ f. sign_at bytes P1 signs.RightBracket f.1 >>= λ vs. Ok (found ++ record { form = f.0; modulus = 0 } ∷ [], vs))
+      given_bind (Passed bytes (inner ++ behind)) (Valued bytes (found ++ s ∷ []) rest) (sign_at bytes P1 signs.LeftBracket ts) (λ us. form_at bytes names levels left endings.Bracket us >>= λ f. sign_at bytes P1 signs.RightBracket f.1 >>= λ vs. Ok (found ++ record { form = f.0; modulus = 0 } ∷ [], vs))
       (sign_given bytes P1 signs.LeftBracket ts (inner ++ behind) flat) (λ us a.
-      given_bind (Valued bytes s.form behind) (Valued bytes (found ++ s ∷ []) rest) (form_at bytes names levels left us) (λ f. sign_at bytes P1 signs.RightBracket f.1 >>= λ vs. Ok (found ++ record { form = f.0; modulus = 0 } ∷ [], vs))
-      (form_given bytes names levels letters left known.iterators s.form us behind (sym long) few (coefs.1, form.1) (record { stars = refl; brackets = refl }) refl a) (λ f b.
+      given_bind (Valued bytes s.form behind) (Valued bytes (found ++ s ∷ []) rest) (form_at bytes names levels left endings.Bracket us) (λ f. sign_at bytes P1 signs.RightBracket f.1 >>= λ vs. Ok (found ++ record { form = f.0; modulus = 0 } ∷ [], vs))
+      (form_given bytes names levels letters left endings.Bracket known.iterators s.form us behind (sym long) few (coefs.1, form.1) (record { stars = refl; brackets = refl; follows = refl }) refl a) (λ f b.
       given_bind (Passed bytes rest) (Valued bytes (found ++ s ∷ []) rest) (sign_at bytes P1 signs.RightBracket f.1) (λ vs. Ok (found ++ record { form = f.0; modulus = 0 } ∷ [], vs))
       (sign_given bytes P1 signs.RightBracket f.1 rest b.1) (λ vs c.
       let same : record { form = f.0; modulus = 0 } ≡ s = ap (λ (x : Form). record { form = x; modulus = 0 }) b.0 ∙ ap (λ (m : ℕ). record { form = s.form; modulus = m }) (sym zero) in
@@ -152,21 +154,21 @@ module _ (bytes : List ℕ) (names : Names) (arrays : List ArrayDecl) (letters l
       → Reached bytes sort (λ x. x ≡ e) (n + operands e) (operands e) rest (more_factors bytes sort (unary bytes sort left) star) (product bytes sort (unary bytes sort left) star n ts)
 
   abbrev TermRead : Expr → Type 0
-  TermRead e = (left : ℕ) (star : Option ℕ) (n : ℕ) (ts : List Token) (rest : List Symbol) → nested e Term left ≡ true → n + operands e ≤ 256 → Calm rest → Sees bytes ts (shown e Term ++ rest)
-      → Reached bytes sort (λ x. x ≡ e) (n + operands e) (operands e) rest (more_terms bytes sort (unary bytes sort left) star) (sum bytes sort (unary bytes sort left) star n ts)
+  TermRead e = (ending : Ending) (left : ℕ) (star : Option ℕ) (n : ℕ) (ts : List Token) (rest : List Symbol) → nested e Term left ≡ true → n + operands e ≤ 256 → Calm ending rest → Sees bytes ts (shown e Term ++ rest)
+      → Reached bytes sort (λ x. x ≡ e) (n + operands e) (operands e) rest (more_terms bytes sort (unary bytes sort left) ending star) (sum bytes sort (unary bytes sort left) ending star n ts)
 
   factor_from : (e : Expr) → ((left : ℕ) → nested e Factor left ≡ true → nested e Operand left ≡ true) → shown e Factor ≡ shown e Operand → OperandRead e → FactorRead e
   factor_from e nests same o left star n ts rest h l b s =
       product_begun bytes sort (unary bytes sort left) star (λ x. x ≡ e) (n + operands e) (operands e) n ts rest (o left star n ts rest (nests left h) l b (rw same at s))
 
-  factor_whole : (e : Expr) → FactorRead e → (left : ℕ) (star : Option ℕ) (n : ℕ) (ts : List Token) (rest : List Symbol) → nested e Factor left ≡ true → n + operands e ≤ 256 → Calm rest
+  factor_whole : (e : Expr) → FactorRead e → (ending : Ending) (left : ℕ) (star : Option ℕ) (n : ℕ) (ts : List Token) (rest : List Symbol) → nested e Factor left ≡ true → n + operands e ≤ 256 → Calm ending rest
       → Sees bytes ts (shown e Factor ++ rest) → Given (AtExpr e (n + operands e) rest) (product bytes sort (unary bytes sort left) star n ts)
-  factor_whole e f left star n ts rest h l calm s =
+  factor_whole e f ending left star n ts rest h l calm s =
       product_ends bytes sort (unary bytes sort left) star (λ x. x ≡ e) (n + operands e) (operands e) rest (product bytes sort (unary bytes sort left) star n ts) calm.stars (f left star n ts rest h l calm.brackets s)
 
   term_from : (e : Expr) → ((left : ℕ) → nested e Term left ≡ true → nested e Factor left ≡ true) → shown e Term ≡ shown e Factor → FactorRead e → TermRead e
-  term_from e nests same f left star n ts rest h l calm s =
-      sum_begun bytes sort (unary bytes sort left) star (λ x. x ≡ e) (n + operands e) (operands e) n ts rest (factor_whole e f left star n ts rest (nests left h) l calm (rw same at s))
+  term_from e nests same f ending left star n ts rest h l calm s =
+      sum_begun bytes sort (unary bytes sort left) star ending (λ x. x ≡ e) (n + operands e) (operands e) n ts rest calm.follows (factor_whole e f ending left star n ts rest (nests left h) l calm (rw same at s))
 
   operand_from : (e : Expr) → ((left : ℕ) → nested e Operand left ≡ true → (l : ℕ) × (left ≡ suc l) × (nested e Term l ≡ true))
       → ((rest : List Symbol) → shown e Operand ++ rest ≡ Mark signs.LeftParen ∷ (shown e Term ++ (Mark signs.RightParen ∷ rest))) → TermRead e → OperandRead e
@@ -174,8 +176,8 @@ module _ (bytes : List ℕ) (names : Names) (arrays : List ArrayDecl) (letters l
       let level = nests left h in
       let more : List Symbol = shown e Term ++ (Mark signs.RightParen ∷ rest) in
       rw level.1 (parens_read bytes sort (λ x. x ≡ e) level.0 star n (n + operands e) ts more rest (s ∙ same rest) (λ us sees.
-      sum_ends bytes sort (unary bytes sort level.0) star (λ x. x ≡ e) (n + operands e) (operands e) (Mark signs.RightParen ∷ rest) (sum bytes sort (unary bytes sort level.0) star n us) refl
-      (t level.0 star n us (Mark signs.RightParen ∷ rest) level.2 l (record { stars = refl; brackets = refl }) sees)))
+      sum_ends bytes sort (unary bytes sort level.0) star endings.Paren (λ x. x ≡ e) (n + operands e) (operands e) (Mark signs.RightParen ∷ rest) (sum bytes sort (unary bytes sort level.0) endings.Paren star n us) refl
+      (t endings.Paren level.0 star n us (Mark signs.RightParen ∷ rest) level.2 l (record { stars = refl; brackets = refl; follows = refl }) sees)))
 
   pub record RightRead (e : Expr) : Type 0 where
     pub some : 1 ≤ operands e
@@ -186,18 +188,18 @@ module _ (bytes : List ℕ) (names : Names) (arrays : List ArrayDecl) (letters l
   -- a sum or a difference
   sum_term : (e x y : Expr) (s : Sign) → term_sign (looks.Sign s) ≡ Some s → ((at : ℕ) (a b : Expr) → a ≡ x → b ≡ y → Given (λ z. z ≡ e) (joined_right s at a b)) → operands e ≡ operands x + operands y
       → ((left : ℕ) → nested e Term left ≡ true → (nested x Term left && nested y Factor left) ≡ true) → shown e Term ≡ joined_symbols false (shown x Term) s (shown y Factor)
-      → (is_sign signs.LeftBracket (looks.Sign s) ≡ false) → (factor_sign (looks.Sign s) ≡ None) → RightRead x → RightRead y → TermRead e
+      → (is_sign signs.LeftBracket (looks.Sign s) ≡ false) → (factor_sign (looks.Sign s) ≡ None) → ((ending : Ending) → fits_behind ending (looks.Sign s) ≡ true) → RightRead x → RightRead y → TermRead e
   unfolding rights
-  sum_term e x y s sign joins count nests same bracket starred rx ry left star n ts rest h l calm sees =
+  sum_term e x y s sign joins count nests same bracket starred adds rx ry ending left star n ts rest h l calm sees =
       let parts = and_parts (nested x Term left) (nested y Factor left) (nests left h) in
       let more = shown y Factor ++ rest in
       let flat : Sees bytes ts (shown x Term ++ (Mark s ∷ more)) = sees ∙ ap (λ (xs : List Symbol). xs ++ rest) same ∙ plain_joined (shown x Term) s (shown y Factor) rest in
-      let first = rx.term left star n ts (Mark s ∷ more) parts.0 (omega (arith, count)) (record { stars = starred; brackets = bracket }) flat in
+      let first = rx.term ending left star n ts (Mark s ∷ more) parts.0 (omega (arith, count)) (record { stars = starred; brackets = bracket; follows = adds ending }) flat in
       let one = ry.some in
       let whole : n + operands x + operands y ≡ n + operands e = omega (arith, count) in
-      rw (← whole) (term_on bytes sort (unary bytes sort left) star (λ a. a ≡ x) (λ b. b ≡ y) (λ z. z ≡ e) (n + operands x) (n + operands x + operands y) (operands x) (operands e) s more rest
-      (sum bytes sort (unary bytes sort left) star n ts) (omega (arith, one, count)) (omega (arith, one, count)) sign first
-      (λ us there. factor_whole y ry.factor left star (n + operands x) us rest parts.1 (omega (arith, count)) calm there) joins)
+      rw (← whole) (term_on bytes sort (unary bytes sort left) star ending (λ a. a ≡ x) (λ b. b ≡ y) (λ z. z ≡ e) (n + operands x) (n + operands x + operands y) (operands x) (operands e) s more rest
+      (sum bytes sort (unary bytes sort left) ending star n ts) (omega (arith, one, count)) (omega (arith, one, count)) sign calm.follows first
+      (λ us there. factor_whole y ry.factor ending left star (n + operands x) us rest parts.1 (omega (arith, count)) calm there) joins)
 
   -- a product
   product_factor : (e x y : Expr) → ((at : ℕ) (a b : Expr) → a ≡ x → b ≡ y → Given (λ z. z ≡ e) (joined_right signs.Star at a b)) → operands e ≡ operands x + operands y
@@ -288,13 +290,13 @@ module _ (bytes : List ℕ) (names : Names) (arrays : List ArrayDecl) (letters l
       (λ us again. rx.operand level.0 star n us rest level.2 (omega (arith, count)) bare again)
       (λ at a is. given_ok (λ z. z ≡ exprs.Neg x) (exprs.Neg a) (ap exprs.Neg is)))
 
-  sum_right : (e x y : Expr) (s : Sign) → term_sign (looks.Sign s) ≡ Some s → is_sign signs.LeftBracket (looks.Sign s) ≡ false → factor_sign (looks.Sign s) ≡ None
+  sum_right : (e x y : Expr) (s : Sign) → term_sign (looks.Sign s) ≡ Some s → is_sign signs.LeftBracket (looks.Sign s) ≡ false → factor_sign (looks.Sign s) ≡ None → ((ending : Ending) → fits_behind ending (looks.Sign s) ≡ true)
       → ((at : ℕ) (a b : Expr) → a ≡ x → b ≡ y → Given (λ z. z ≡ e) (joined_right s at a b)) → operands e ≡ operands x + operands y
       → ((st : Standing) (left : ℕ) → nested e st left ≡ within_left (inside (not (is_term st)) left) (λ l. nested x Term l && nested y Factor l))
       → ((st : Standing) → shown e st ≡ joined_symbols (not (is_term st)) (shown x Term) s (shown y Factor)) → RightRead x → RightRead y → RightRead e
-  sum_right e x y s sign bracket starred joins count nests same rx ry =
+  sum_right e x y s sign bracket starred adds joins count nests same rx ry =
       let one = rx.some in
-      let t : TermRead e = sum_term e x y s sign joins count (λ left h. sym (nests Term left) ∙ h) (same Term) bracket starred rx ry in
+      let t : TermRead e = sum_term e x y s sign joins count (λ left h. sym (nests Term left) ∙ h) (same Term) bracket starred adds rx ry in
       let o : OperandRead e = operand_from e
       (λ left h. let level = left_open left (λ l. nested x Term l && nested y Factor l) (sym (nests Operand left) ∙ h) in (level.0, level.1, nests Term level.0 ∙ level.2))
       (λ rest. ap (λ (xs : List Symbol). xs ++ rest) (same Operand) ∙ parens_joined (shown x Term) s (shown y Factor) rest
@@ -384,12 +386,12 @@ module _ (bytes : List ℕ) (names : Names) (arrays : List ArrayDecl) (letters l
   same_both f a b x y p q = cc
 
   added_read : (x y : Expr) → RightRead x → RightRead y → RightRead (exprs.Add x y)
-  added_read x y rx ry = sum_right (exprs.Add x y) x y signs.Plus refl refl refl
+  added_read x y rx ry = sum_right (exprs.Add x y) x y signs.Plus refl refl refl (λ ending. refl)
       (λ at a b p q. given_ok (λ z. z ≡ exprs.Add x y) (exprs.Add a b) (same_both exprs.Add a b x y p q)) (fold_add operands_step x y)
       (λ s left. ap (λ f. f s left) (fold_add nested_step x y)) (λ s. ap (λ f. f s) (fold_add (right_step arrays letters) x y)) rx ry
 
   subtracted_read : (x y : Expr) → RightRead x → RightRead y → RightRead (exprs.Sub x y)
-  subtracted_read x y rx ry = sum_right (exprs.Sub x y) x y signs.Minus refl refl refl
+  subtracted_read x y rx ry = sum_right (exprs.Sub x y) x y signs.Minus refl refl refl (λ ending. refl)
       (λ at a b p q. given_ok (λ z. z ≡ exprs.Sub x y) (exprs.Sub a b) (same_both exprs.Sub a b x y p q)) (fold_sub operands_step x y)
       (λ s left. ap (λ f. f s left) (fold_sub nested_step x y)) (λ s. ap (λ f. f s) (fold_sub (right_step arrays letters) x y)) rx ry
 
@@ -419,11 +421,11 @@ module _ (bytes : List ℕ) (names : Names) (arrays : List ArrayDecl) (letters l
 
   -- a whole right side
   pub right_given : (e : Expr) (ts : List Token) (rest : List Symbol) → parts_fit arrays levels e ≡ true → operands e ≤ 256 → nested e Term 32 ≡ true → LetsKnown (minus_in e)
-      → Calm rest → term_sign (front rest) ≡ None → Sees bytes ts (right_symbols arrays letters e Term ++ rest) → Given (Valued bytes e rest) (right_at bytes names levels ts)
+      → Calm endings.Semicolon rest → term_sign (front rest) ≡ None → Sees bytes ts (right_symbols arrays letters e Term ++ rest) → Given (Valued bytes e rest) (right_at bytes names levels ts)
   unfolding right_at
   right_given e ts rest h l nests lets calm ends sees =
       let reads : RightRead e = any_read e h lets in
-      let whole = sum_ends bytes sort (unary bytes sort 32) None (λ x. x ≡ e) (0 + operands e) (operands e) rest (sum bytes sort (unary bytes sort 32) None 0 ts) ends
-      (reads.term 32 None 0 ts rest nests (omega arith) calm sees) in
-      given_bind (AtExpr e (0 + operands e) rest) (Valued bytes e rest) (sum bytes sort (unary bytes sort 32) None 0 ts) (λ x. Ok (x.0, x.2)) whole (λ x g.
+      let whole = sum_ends bytes sort (unary bytes sort 32) None endings.Semicolon (λ x. x ≡ e) (0 + operands e) (operands e) rest (sum bytes sort (unary bytes sort 32) endings.Semicolon None 0 ts) ends
+      (reads.term endings.Semicolon 32 None 0 ts rest nests (omega arith) calm sees) in
+      given_bind (AtExpr e (0 + operands e) rest) (Valued bytes e rest) (sum bytes sort (unary bytes sort 32) endings.Semicolon None 0 ts) (λ x. Ok (x.0, x.2)) whole (λ x g.
       given_ok (Valued bytes e rest) (x.0, x.2) (g.0, g.2))

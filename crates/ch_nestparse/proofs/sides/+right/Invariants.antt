@@ -4,25 +4,28 @@ use Rattle.ch_nestparse.specs.Rights.{rights}
 use Rattle.ch_nestparse.proofs.sides.+right.Given as goal
 
 abbrev pub decreases-unary : goal.decreases-unary
-decreases-unary l = l.left * 6
+decreases-unary l = l.left * 7
 
 abbrev pub decreases-factor : goal.decreases-factor
-decreases-factor l = l.left * 6 + 1
+decreases-factor l = l.left * 7 + 1
 
 abbrev pub decreases-product : goal.decreases-product
-decreases-product l = l.left * 6 + 2
+decreases-product l = l.left * 7 + 2
+
+abbrev pub decreases-summand : goal.decreases-summand
+decreases-summand l = l.left * 7 + 3
 
 abbrev pub decreases-term : goal.decreases-term
-decreases-term l = l.left * 6 + 3
+decreases-term l = l.left * 7 + 4
 
 abbrev pub decreases-sum : goal.decreases-sum
-decreases-sum l = l.left * 6 + 4
+decreases-sum l = l.left * 7 + 5
 
 abbrev pub decreases-behind_minus : goal.decreases-behind_minus
-decreases-behind_minus l = l.left * 6 + 5
+decreases-behind_minus l = l.left * 7 + 6
 
 abbrev pub decreases-between_parens : goal.decreases-between_parens
-decreases-between_parens l = l.left * 6 + 5
+decreases-between_parens l = l.left * 7 + 6
 
 abbrev pub invariant-product-loop-k : goal.invariant-product-loop-k
 invariant-product-loop-k l =
@@ -31,5 +34,5 @@ invariant-product-loop-k l =
 
 abbrev pub invariant-sum-loop-k : goal.invariant-sum-loop-k
 invariant-sum-loop-k l =
-    more_terms l.bytes (rights l.bytes l.names l.levels) (unary l.bytes (rights l.bytes l.names l.levels) l.left) l.star (256 - l._k) (l.part, l.count, l.rest)
-    ≡ sum l.bytes (rights l.bytes l.names l.levels) (unary l.bytes (rights l.bytes l.names l.levels) l.left) l.star l.fn.count l.tokens
+    more_terms l.bytes (rights l.bytes l.names l.levels) (unary l.bytes (rights l.bytes l.names l.levels) l.left) l.ending l.star (256 - l._k) (l.part, l.count, l.rest)
+    ≡ sum l.bytes (rights l.bytes l.names l.levels) (unary l.bytes (rights l.bytes l.names l.levels) l.left) l.ending l.star l.fn.count l.tokens
