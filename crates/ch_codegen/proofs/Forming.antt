@@ -1,7 +1,7 @@
 -- The code that is made fits its loops and arrays, and its loops have small values.
-use Rattle.std.proofs.Common.{◌≡◌, refl, sym, ap, ap₂, ◌∙◌, subst, ℕ, zero, suc, ◌+◌, ◌<◌, ◌≤◌, ◌^◌, ℤ, pos, ◌+ℤ◌, ◌≤ℤ◌, Bool, true, false, ◌&&◌, cond, nat_eq, nat_le, IsTrue, List, [], ◌∷◌, ◌++◌, map, length, take, drop, replicate, unsigned_abs, arith, length-append, take-append-drop}
+use Rattle.std.proofs.Common.{◌≡◌, refl, sym, ap, ap₂, ◌∙◌, subst, ℕ, zero, suc, ◌+◌, ◌<◌, ◌≤◌, ◌^◌, ℤ, pos, ◌+ℤ◌, ◌≤ℤ◌, Bool, true, false, ◌&&◌, cond, nat_eq, nat_le, List, [], ◌∷◌, ◌++◌, map, length, take, drop, replicate, arith, length-append, take-append-drop}
 use Rattle.std.specs.List.{All, list_all, flat_map}
-use Rattle.std.proofs.lemmas.Bool.{and_from, and_parts}
+use Rattle.std.proofs.lemmas.Bool.{and_from}
 use Rattle.std.proofs.lemmas.Bool.Decides.{nat_tests}
 use Rattle.std.proofs.lemmas.Int.{ints}
 use Rattle.std.proofs.lemmas.List.Sums.{list_all-from_AllPass}
@@ -13,15 +13,13 @@ use Rattle.ch_code.specs.declared.code.Bound.{Bound}
 use Rattle.ch_code.specs.declared.code.Code.{Code}
 use Rattle.ch_code.specs.declared.code.Code.TheOpen.{Code-F}
 use Rattle.ch_code.specs.declared.code.Code.TheFolds.{fold-roll-Code}
-use Rattle.ch_code.specs.declared.code.Code.TheVariants.{Seq, Loop, Guard, Leaf, rolls-Seq, rolls-Loop, rolls-Guard, rolls-Leaf}
-use Rattle.ch_code.specs.Trace.{low_of, high_of}
-use Rattle.ch_code.specs.WellFormed.{Fitting, Valued, body_fits, bound_fits, fits, fits_step, form_fits, guards, guards_step, loop_values, turn_values, values_step}
+use Rattle.ch_code.specs.declared.code.Code.TheVariants.{Seq, Loop, Guard, rolls-Seq, rolls-Loop, rolls-Guard, rolls-Leaf}
+use Rattle.ch_code.specs.WellFormed.{Fitting, Valued, bound_fits, fits, fits_step, form_fits, guards, guards_step, loop_values, turn_values, values_step}
 use Rattle.ch_nest.specs.Run.{count}
 use Rattle.ch_poly.specs.Points.{begins_some}
 use Rattle.ch_space.specs.declared.piece.Piece.{Piece}
 use Rattle.ch_space.specs.Keeps.{IsWhole}
 use Rattle.ch_timed.specs.Members.{Each}
-use Rattle.ch_timed.proofs.Orders.{each_more}
 use Rattle.ch_codegen.specs.Formed.{HasBody, IsFormed}
 use Rattle.ch_codegen.specs.Made.{bound, leaf, guard, loop, sequence}
 use Rattle.ch_codegen.specs.Parts.{InRanges}

@@ -1,5 +1,5 @@
 -- The two statements in loops of their own stand apart.
-use Rattle.std.proofs.Common.{◌≡◌, ◌≢◌, refl, sym, subst, ℕ, zero, suc, ◌<◌, ℤ, pos, List, [], ◌∷◌, length, arith}
+use Rattle.std.proofs.Common.{◌≡◌, ◌≢◌, refl, sym, subst, ℕ, zero, suc, pos, List, [], ◌∷◌, length, arith}
 use Rattle.std.specs.List.{All}
 use Rattle.ch_space.specs.Keeps.{IsWhole, AreApart}
 use Rattle.ch_space.specs.declared.piece.Piece.{Piece}

@@ -1,6 +1,6 @@
 -- What is generated for a space is well formed.
-use Rattle.std.proofs.Common.{◌≡◌, refl, sym, ap, ap₂, ◌∙◌, subst, ℕ, zero, suc, ◌+◌, ◌<◌, ◌≤◌, ◌^◌, ℤ, Bool, true, ◌&&◌, nat_eq, nat_lt, List, [], ◌∷◌, ◌++◌, length, arith}
-use Rattle.std.specs.List.{All, list_all}
+use Rattle.std.proofs.Common.{◌≡◌, refl, sym, ap₂, ◌∙◌, subst, ℕ, zero, suc, ◌+◌, ◌<◌, ◌^◌, Bool, true, ◌&&◌, nat_eq, nat_lt, List, [], ◌∷◌, length, arith}
+use Rattle.std.specs.List.{All}
 use Rattle.std.proofs.lemmas.Bool.{and_from}
 use Rattle.std.proofs.lemmas.Bool.Decides.{nat_tests}
 use Rattle.std.proofs.lemmas.List.Sums.{list_all-from_AllPass}
@@ -14,7 +14,6 @@ use Rattle.ch_nest.specs.declared.nest.Body.{Body}
 use Rattle.ch_nest.specs.declared.nest.Expr.{Expr, map-Expr}
 use Rattle.ch_nest.specs.declared.nest.Expr.TheFolds.{fold-roll-Expr, ind-Expr}
 use Rattle.ch_nest.specs.declared.nest.Expr.TheOpen.{Expr-F}
-use Rattle.ch_nest.specs.declared.nest.Sub as sub
 use Rattle.ch_space.specs.declared.piece.Piece.{Piece}
 use Rattle.ch_space.specs.Keeps.{IsAccess, IsBody, accesses, iters_below, iters_below_step}
 use Rattle.ch_space.specs.Pieces.{listed}
