@@ -24,7 +24,7 @@ all_more P x xs p h zero d l = p
 all_more P x xs p h (suc k) d l = h k d (omega arith)
 
 whole : (number : ℕ) (low : ℤ) → IsWhole (piece number low)
-whole number low = record { places = refl; variables = refl; origin = all_more (λ f. length f.coefs ≡ 1) first_level [] refl (all_none _) }
+whole number low = record { places = refl; variables = refl; boxes = refl; origin = all_more (λ f. length f.coefs ≡ 1) first_level [] refl (all_none _) }
 
 first_some : instances (piece 0 (pos 0)) ≢ []
 first_some e = let f : (pos 0 ∷ []) ∷ (pos 1 ∷ []) ∷ [] ≡ [] = e in cc

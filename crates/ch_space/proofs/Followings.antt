@@ -1,5 +1,5 @@
 -- Values that come after a vector, place by place and level by level.
-use Rattle.std.proofs.Common.{◌≡◌, ◌≢◌, refl, sym, ap, ap₂, ◌∙◌, subst, ℕ, zero, suc, ◌+◌, ◌<◌, ◌≤◌, ℤ, pos, ◌<ℤ◌, Bool, true, false, Option, Some, None, List, [], ◌∷◌, ◌++◌, length, map, ◌⊎◌, inl, inr, arith}
+use Rattle.std.proofs.Common.{◌≡◌, refl, sym, ap, ◌∙◌, subst, ℕ, ◌+◌, ◌≤◌, ℤ, ◌<ℤ◌, true, Option, Some, None, List, [], ◌∷◌, ◌++◌, length, ◌⊎◌, inl, inr, arith}
 use Rattle.std.specs.Bool.{IsTrue}
 use Rattle.std.proofs.lemmas.Int.{ints}
 use Rattle.std.specs.Ordering.{int_cmp, is_lt, ordering_then, MatchOrdering}
@@ -9,8 +9,8 @@ use Rattle.std.specs.Cmp.{tied_itself, int_cmp_total, int_ranked}
 use Rattle.std.specs.Cmp.Lexicographic.{slice_cmp}
 use Rattle.ch_timed.specs.Members.{In}
 use Rattle.ch_timed.specs.Vectors.{comes_before, woven}
-use Rattle.ch_timed.proofs.Orders.{not_both, not_itself}
-use Rattle.ch_space.specs.Following.{BeginsWith, ComesAfter, IsAbove, IsAny, IsLeast, UpTo}
+use Rattle.ch_timed.proofs.Orders.{not_both}
+use Rattle.ch_space.specs.Following.{BeginsWith, ComesAfter, IsAbove, IsLeast, UpTo}
 use Rattle.ch_space.proofs.PieceElements.{Comes, cons_comes, less_comes}
 
 abbrev itself : List ℤ → List ℤ
@@ -136,7 +136,8 @@ least_same P Q xss (Some m) f g h = (h.0, f m h.0 h.1, λ xs i q. h.2 xs i (g xs
 pub least_stays : (p y : ℤ) (inner behind fixed m : List ℤ) (xss : List (List ℤ)) → IsLeast (BeginsWith (fixed ++ y ∷ []) (ComesAfter inner behind)) xss (Some m)
     → IsLeast (BeginsWith fixed (ComesAfter (p ∷ inner) (p ∷ y ∷ behind))) xss (Some m)
 least_stays p y inner behind fixed m xss h = (
-  h.0, same_front p y inner behind fixed m h.1,
+  h.0,
+  same_front p y inner behind fixed m h.1,
   λ xs i b. elim (parts p y inner behind fixed xs b) as (λ _. UpTo m xs) [
     | inl s ↦ h.2 xs i s
     | inr a ↦ inr (same_before (ComesAfter inner behind) y fixed m xs h.1 a)

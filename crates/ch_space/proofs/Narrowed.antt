@@ -1,5 +1,5 @@
 -- The least instance whose first values are in given ranges, from the least point of a system with narrower ranges.
-use Rattle.std.proofs.Common.{◌≡◌, ◌≢◌, refl, sym, ap, ap₂, ◌∙◌, subst, ℕ, zero, suc, ◌+◌, ◌<◌, ◌≤◌, ◌^◌, ℤ, pos, ◌+ℤ◌, ◌≤ℤ◌, ◌<ℤ◌, Option, Some, None, List, [], ◌∷◌, ◌++◌, length, map, take, get_or, ◌⊎◌, inl, inr, arith, Result, Ok, Err, IfOk, MatchOption, length-take-le}
+use Rattle.std.proofs.Common.{◌≡◌, refl, sym, ap, ap₂, ◌∙◌, subst, ℕ, zero, suc, ◌+◌, ◌<◌, ◌≤◌, ◌^◌, ℤ, pos, ◌+ℤ◌, ◌≤ℤ◌, ◌<ℤ◌, Option, Some, None, List, [], ◌∷◌, ◌++◌, length, map, take, get_or, inl, inr, arith, Result, Ok, Err, IfOk, MatchOption, length-take-le}
 use Rattle.std.specs.declared.alloc.AllocError.{AllocError}
 use Rattle.std.specs.List.{All}
 use Rattle.std.proofs.lemmas.Int.{ints, clamps}
@@ -173,11 +173,12 @@ module _ (p : Piece) (front : List Range) (w : IsWhole p) (few : length front �
   least_some q f =
       let here = first_in (points Narrow) q f in
       let out = point_out q here in (
-        front_in p q out.0, begins_take front p.levels q few out.1,
+        front_in p q out.0,
+        begins_take front p.levels q few out.1,
         λ xs i b.
-        let r = instance_point xs i b in
-        let same : length q ≡ length r.0 = point_long q here ∙ sym (point_long r.0 r.1.0) in
-        subst (UpTo (take p.levels q)) r.1.1 (take_up_to p.levels q r.0 same (first_before (points Narrow) q (points_ascend Narrow) f r.0 r.1.0)),
+            let r = instance_point xs i b in
+            let same : length q ≡ length r.0 = point_long q here ∙ sym (point_long r.0 r.1.0) in
+            subst (UpTo (take p.levels q)) r.1.1 (take_up_to p.levels q r.0 same (first_before (points Narrow) q (points_ascend Narrow) f r.0 r.1.0)),
       )
 
   pub least_empty : HasEmpty (narrowed p.system.boxes front) → IsLeast (BeginsIn front) (instances p) None

@@ -1,20 +1,18 @@
 -- The pieces of a well formed nest keep the limits of a space.
-use Rattle.std.proofs.Common.{◌≡◌, ◌≢◌, refl, sym, ap, ◌∙◌, subst, ℕ, zero, suc, ◌+◌, ◌*◌, ◌^◌, ◌<◌, ◌≤◌, ℤ, Bool, true, false, cond, ◌&&◌, nat_eq, nat_lt, nat_le, if◌then◌else◌, Option, Some, None, List, [], ◌∷◌, ◌++◌, length, map, take, get_or, arith, length-append}
+use Rattle.std.proofs.Common.{◌≡◌, refl, sym, ap, subst, ℕ, zero, suc, ◌+◌, ◌≤◌, ℤ, Bool, true, false, cond, ◌&&◌, nat_eq, nat_lt, Some, List, [], ◌∷◌, ◌++◌, length, map, arith, length-append}
 use Rattle.std.specs.Bool.{IsTrue}
 use Rattle.std.specs.Option.{is_some}
 use Rattle.std.specs.List.{All, filter}
 use Rattle.std.proofs.lemmas.Bool.{and_parts, leb-true, ltb-true}
 use Rattle.std.proofs.lemmas.List.{take_all}
 use Rattle.std.proofs.lemmas.List.Elements.{All-nil, All-cons}
-use Rattle.ch_affine.specs.Affine.{IsAtMost}
 use Rattle.ch_affine.specs.declared.system.Range.{Range}
-use Rattle.ch_nest.specs.declared.nest.Access.{Access}
 use Rattle.ch_nest.specs.declared.nest.ArrayDecl.{ArrayDecl}
 use Rattle.ch_nest.specs.declared.nest.Body.{Body}
 use Rattle.ch_nest.specs.declared.nest.Item.{Item, map-Item}
 use Rattle.ch_nest.specs.declared.nest.Item.TheOpen.{Item-F}
 use Rattle.ch_nest.specs.declared.nest.Item.TheFolds.{fold-roll-Item, ind-Item}
-use Rattle.ch_nest.specs.Limits.{deepest, most_affine, most_statements}
+use Rattle.ch_nest.specs.Limits.{most_affine, most_statements}
 use Rattle.ch_nest.specs.LoopNest.{LoopNest}
 use Rattle.ch_nest.specs.Shape.{IsSmall, Numbering, all_numbered, arrays_fit, box_of, each_numbered, is_at_most, is_nest, items_fit, numbered, numbered_step}
 use Rattle.ch_space.specs.declared.level.Level.{Level}
@@ -24,13 +22,11 @@ use Rattle.ch_space.specs.Fitting.{LevelsFit}
 use Rattle.ch_space.specs.Keeps.{IsBody, IsBounded, IsLimited, IsWrapped, accesses, farthest, most_pieces}
 use Rattle.ch_space.specs.Pieces.{listed}
 use Rattle.ch_space.specs.Statements.{Finding, Statement, at_numbers, executed, instances_of, statements, statements_of, statements_step}
-use Rattle.ch_space.proofs.Bodies.{each_in}
 use Rattle.ch_space.proofs.Builds.{levels_few}
 use Rattle.ch_space.proofs.EndsOf.{at_all}
 use Rattle.ch_space.proofs.PieceNumbers.{all_in, in_listed}
 use Rattle.ch_space.proofs.Shapes.{IsFit, length_boxes}
 use Rattle.ch_space.proofs.Short.{after_some, label_next, some_number, some_same}
-use Rattle.ch_timed.specs.declared.element.Element.{Element}
 
 -- The labels count the statements.
 

@@ -1,5 +1,5 @@
 -- The element of several pieces that comes next after a vector.
-use Rattle.std.proofs.Common.{◌≡◌, ◌≢◌, refl, sym, ap, ap₂, ◌∙◌, subst, ℕ, zero, suc, ◌+◌, ◌<◌, ◌≤◌, ℤ, pos, Bool, true, false, Option, Some, None, List, [], ◌∷◌, ◌++◌, length, map, take, get_or, ◌⊎◌, inl, inr, arith, append-nil, append_assoc, length-take-le}
+use Rattle.std.proofs.Common.{◌≡◌, refl, sym, ap, ap₂, ◌∙◌, subst, ℕ, ◌+◌, ◌<◌, ◌≤◌, ℤ, pos, Bool, true, false, Option, Some, None, List, [], ◌∷◌, ◌++◌, length, map, take, get_or, inl, inr, arith, append-nil, append_assoc, length-take-le}
 use Rattle.std.specs.Bool.{IsTrue}
 use Rattle.std.specs.List.{flat_map}
 use Rattle.std.specs.Ordering.{int_cmp, is_lt, ordering_reverse}
@@ -49,14 +49,16 @@ module _ (vector : List ℤ) where
   both_by : (c : Bool) (es fs : List Element) (a b : Element) → comes_before b.vector a.vector ≡ c → IsNext vector es (Some a) → IsNext vector fs (Some b)
       → IsNext vector (es ++ fs) (Some (second_if c a b))
   both_by true es fs a b e m n = (
-    append_right es fs b n.0, n.1,
+    append_right es fs b n.0,
+    n.1,
     λ x i l. elim (in_append es fs x i) as (λ _. UpTo b.vector x.vector) [
       | inl j ↦ up_to_both b.vector a.vector x.vector (inr (is_less (slice_cmp int_cmp b.vector a.vector) e)) (m.2 x j l)
       | inr j ↦ n.2 x j l
     ],
   )
   both_by false es fs a b e m n = (
-    append_left es fs a m.0, m.1,
+    append_left es fs a m.0,
+    m.1,
     λ x i l. elim (in_append es fs x i) as (λ _. UpTo a.vector x.vector) [
       | inl j ↦ m.2 x j l
       | inr j ↦ up_to_both a.vector b.vector x.vector (not_less a.vector b.vector (slice_cmp int_cmp b.vector a.vector) refl e) (n.2 x j l)
@@ -66,11 +68,13 @@ module _ (vector : List ℤ) where
   earlier_is : (es fs : List Element) (r s : Option Element) → IsNext vector es r → IsNext vector fs s → IsNext vector (es ++ fs) (earlier r s)
   earlier_is es fs None None m n = λ x i l. elim (in_append es fs x i) as (λ _. ⊥) [ inl j ↦ m x j l | inr j ↦ n x j l ]
   earlier_is es fs None (Some b) m n = (
-    append_right es fs b n.0, n.1,
+    append_right es fs b n.0,
+    n.1,
     λ x i l. elim (in_append es fs x i) as (λ _. UpTo b.vector x.vector) [ inl j ↦ absurd (m x j l) | inr j ↦ n.2 x j l ],
   )
   earlier_is es fs (Some a) None m n = (
-    append_left es fs a m.0, m.1,
+    append_left es fs a m.0,
+    m.1,
     λ x i l. elim (in_append es fs x i) as (λ _. UpTo a.vector x.vector) [ inl j ↦ m.2 x j l | inr j ↦ absurd (n x j l) ],
   )
   earlier_is es fs (Some a) (Some b) m n = both_by (comes_before b.vector a.vector) es fs a b refl m n
@@ -134,11 +138,12 @@ module _ (vector : List ℤ) where
 
   pub some_element : (p : Piece) (m : List ℤ) → IsWhole p → IsLeast (ComesAfter (places_of p) vector) (instances p) (Some m) → IsNext vector (elements p) (Some (element_at p m))
   some_element p m w h = (
-    map_in (element_at p) (instances p) m h.0, h.1,
+    map_in (element_at p) (instances p) m h.0,
+    h.1,
     λ e i l.
-    let x = in_map (element_at p) (instances p) e i in
-    subst (λ z. UpTo (element_at p m).vector z.vector) x.1.1
-    (vectors_up_to p m x.0 w h.0 x.1.0 (h.2 x.0 x.1.0 (subst (λ z. IsTrue (comes_before vector z.vector)) (sym x.1.1) l))),
+        let x = in_map (element_at p) (instances p) e i in
+        subst (λ z. UpTo (element_at p m).vector z.vector) x.1.1
+        (vectors_up_to p m x.0 w h.0 x.1.0 (h.2 x.0 x.1.0 (subst (λ z. IsTrue (comes_before vector z.vector)) (sym x.1.1) l))),
   )
 
 -- vectors woven from the front on

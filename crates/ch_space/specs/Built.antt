@@ -34,7 +34,8 @@ rows_of n (l ∷ ls) = (map (low_row n) l.lows ++ map (high_row n) l.highs) ++ r
 -- the boxes of these loops, from those of the loops around them
 abbrev pub boxes_from : List Range → List Level → List Range
 boxes_from boxes [] = []
-boxes_from boxes (l ∷ ls) = box_of boxes l.lows l.highs ∷ boxes_from (boxes ++ box_of boxes l.lows l.highs ∷ []) ls
+boxes_from boxes (l ∷ ls) =
+    box_of boxes l.lows l.highs ∷ boxes_from (boxes ++ box_of boxes l.lows l.highs ∷ []) ls
 
 -- the form of one variable, which has so many before it and so many after it
 abbrev pub unit : ℕ → ℕ → Form

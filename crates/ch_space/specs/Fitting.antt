@@ -19,7 +19,8 @@ use Rattle.ch_space.specs.Statements.{Statement, executed, instances_of}
 abbrev pub LevelsFit : List Range → List Level → Type 0
 LevelsFit boxes [] = Unit {0}
 LevelsFit boxes (l ∷ ls) =
-    IsTrue (head_fits (length boxes) l.lows l.highs) × IsSmall (box_of boxes l.lows l.highs) × LevelsFit (boxes ++ box_of boxes l.lows l.highs ∷ []) ls
+    IsTrue (head_fits (length boxes) l.lows l.highs) × IsSmall (box_of boxes l.lows l.highs)
+    × LevelsFit (boxes ++ box_of boxes l.lows l.highs ∷ []) ls
 
 -- such loops at a point of the boxes of the loops around them
 pub record LevelsAt (levels : List Level) (point : List ℤ) : Type 0 where

@@ -68,7 +68,9 @@ HasEmpty (b ∷ boxes) = (b.high <ℤ b.low) ⊎ HasEmpty boxes
 -- the least element, by its vector, of those that come after a vector
 abbrev pub IsNext : List ℤ → List Element → Option Element → Type 0
 IsNext vector es None = (e : Element) → In e es → IsTrue (comes_before vector e.vector) → ⊥
-IsNext vector es (Some m) = In m es × IsTrue (comes_before vector m.vector) × ((e : Element) → In e es → IsTrue (comes_before vector e.vector) → UpTo m.vector e.vector)
+IsNext vector es (Some m) =
+    In m es × IsTrue (comes_before vector m.vector)
+    × ((e : Element) → In e es → IsTrue (comes_before vector e.vector) → UpTo m.vector e.vector)
 
 abbrev pub second_if : Bool → Element → Element → Element
 second_if true a b = b

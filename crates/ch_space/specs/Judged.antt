@@ -55,7 +55,9 @@ leaving_if false k cell more = Some (record { access = k; cell = cell })
 -- the first of these accesses that leaves its array, where the first has number k
 abbrev pub first_leaving : List ArrayDecl → List ℤ → ℕ → List Access → Option Leaving
 first_leaving arrays iters k [] = None
-first_leaving arrays iters k (a ∷ more) = leaving_if (access_inside arrays iters a) k (cell_of iters a) (first_leaving arrays iters (suc k) more)
+first_leaving arrays iters k (a ∷ more) =
+    leaving_if (access_inside arrays iters a) k (cell_of iters a)
+    (first_leaving arrays iters (suc k) more)
 
 abbrev pub out_of_range : Identity → Option Leaving → Option SpaceError
 out_of_range first None = None
@@ -63,7 +65,10 @@ out_of_range first (Some l) = Some (OutOfRange first l.access l.cell)
 
 -- the refusal of one instance, where an access leaves its array
 abbrev pub leaving : LoopNest → Element → Option SpaceError
-leaving nest e = out_of_range e.identity (first_leaving nest.arrays e.identity.iters (accesses_before nest.items e.identity.label) (text_accesses e.body))
+leaving nest e =
+    out_of_range e.identity
+    (first_leaving nest.arrays e.identity.iters (accesses_before nest.items e.identity.label)
+    (text_accesses e.body))
 
 abbrev pub or_else : Option SpaceError → Option SpaceError → Option SpaceError
 or_else (Some e) more = Some e
@@ -76,7 +81,9 @@ first_of f (e ∷ es) = or_else (f e) (first_of f es)
 
 -- The refusal of a nest: too many turns and instances; else the first instance in program order whose access leaves its array.
 abbrev pub judgement : LoopNest → Option SpaceError
-judgement nest = if nat_lt most_work (items_work nest.items []) then Some TooMany else first_of (leaving nest) (start nest)
+judgement nest =
+    if nat_lt most_work (items_work nest.items []) then Some TooMany
+    else first_of (leaving nest) (start nest)
 
 -- what a function gives that judges: the refusal, unless memory ran out
 abbrev pub IsRefusal : SpaceError → Option SpaceError → Type 0

@@ -1,7 +1,8 @@
 -- The walk that judges a nest: the refusal of the first instance below some items at a point, and what is left of the turns.
-use Rattle.std.specs.Prelude.{◌≡◌, ◌<◌, ◌≤◌, ◌^◌, ℕ, zero, suc, ◌+◌, ℤ, pos, ◌+ℤ◌, Option, Some, None, Result, Ok, Err, List, [], ◌∷◌, ◌++◌, length, map}
+use Rattle.std.specs.Prelude.{◌≡◌, ◌<◌, ◌≤◌, ◌^◌, ℕ, zero, suc, ◌+◌, ℤ, pos, ◌+ℤ◌, Option, None, Result, Ok, Err, List, [], ◌∷◌, ◌++◌, length, map}
 use Rattle.std.specs.List.{All}
 use Rattle.ch_affine.specs.Affine.{IsAtMost}
+use Rattle.ch_nest.specs.declared.nest.Body.{Body}
 use Rattle.ch_nest.specs.declared.nest.Item.{Item}
 use Rattle.ch_nest.specs.declared.nest.Item.TheOpen.{Item-F}
 use Rattle.ch_nest.specs.declared.nest.Item.TheFolds.{fold-Item}
@@ -12,6 +13,7 @@ use Rattle.ch_space.specs.declared.error.SpaceError.{SpaceError}
 use Rattle.ch_space.specs.declared.error.SpaceError.TheVariants.{TooMany, OutOfRange, Memory}
 use Rattle.ch_space.specs.declared.judge.Walk.{Walk}
 use Rattle.ch_space.specs.Judged.{leaving, or_else}
+use Rattle.ch_timed.specs.declared.element.Element.{Element}
 use Rattle.ch_timed.specs.declared.element.Label.TheVariants.{Stmt}
 
 -- a point of the loops of a nest
@@ -32,11 +34,20 @@ abbrev pub first_turn : ℕ → ℤ → (ℤ → Option SpaceError) → Option S
 first_turn zero low turn = None
 first_turn (suc n) low turn = or_else (first_turn n low turn) (turn (low +ℤ pos n))
 
+-- the instance of a statement at a point; its vector plays no part
+abbrev pub instance : ℕ → List ℤ → Body → Element
+instance label point body = record {
+  identity = record { label = Stmt label; iters = point };
+  vector = [];
+  body = body;
+}
+
 abbrev pub refusal_step : LoopNest → Item-F Search → Search
 refusal_step nest (Item-F.Loop lows highs items) point =
-    first_turn (count (low_of lows point) (high_of highs point)) (low_of lows point) (λ i. first_at items (point ++ i ∷ []))
+    first_turn (count (low_of lows point) (high_of highs point)) (low_of lows point)
+    (λ i. first_at items (point ++ i ∷ []))
 refusal_step nest (Item-F.Assign label body) point =
-    leaving nest (record { identity = record { label = Stmt label; iters = point }; vector = []; body = body })
+    leaving nest (instance label point body)
 
 abbrev pub item_refusal : LoopNest → Item → Search
 item_refusal nest = fold-Item Search (refusal_step nest)

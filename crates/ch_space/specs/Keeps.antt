@@ -120,7 +120,8 @@ abbrev pub IsMoveBelow : ℕ → Label → Type 0
 IsMoveBelow n (Stmt k) = Unit {0}
 IsMoveBelow n (Move k) = k < n
 
-pub record IsSpace (arrays : ℕ) (pieces : List Piece) (counts : List ℕ) (temps : List (List ℕ)) (weight commands : ℕ) : Type 0 where
+pub record IsSpace (arrays : ℕ) (pieces : List Piece) (counts : List ℕ) (temps : List (List ℕ))
+    (weight commands : ℕ) : Type 0 where
   pub apart : AreApart pieces
   pub well_formed : IsTrue (is_well_formed (listed pieces))
   pub counted : counts ≡ map (λ p. length (instances p)) pieces
@@ -133,7 +134,10 @@ pub record IsSpace (arrays : ℕ) (pieces : List Piece) (counts : List ℕ) (tem
   pub limited : All (IsLimited weight commands) pieces
   pub bodies : All (λ p. IsBody arrays (length temps) (length p.origin) p.body) pieces
   -- accesses of one array have equally many subscripts
-  pub agree : (a b : Access) → In a (flat_map (λ p. accesses p.body) pieces) → In b (flat_map (λ p. accesses p.body) pieces) → a.array ≡ b.array → length a.subs ≡ length b.subs
+  pub agree : (a b : Access) → In a (flat_map (λ p. accesses p.body) pieces)
+      → In b (flat_map (λ p. accesses p.body) pieces) → a.array ≡ b.array
+      → length a.subs ≡ length b.subs
   pub moves : All (λ p. IsMoveBelow (256 * commands) p.label) pieces
   pub near : All (λ e. All (IsAtMost (2 ^ 54)) e.identity.iters) (listed pieces)
-  pub wrapped : All (λ e. All (λ a. All (IsWrapped e.identity.iters) a.subs) (accesses e.body)) (listed pieces)
+  pub wrapped : All (λ e. All (λ a. All (IsWrapped e.identity.iters) a.subs) (accesses e.body))
+      (listed pieces)

@@ -21,8 +21,10 @@ last (x ∷ y ∷ more) = last (y ∷ more)
 
 -- the numbers, ascending, of the places that share that level with these
 abbrev pub sharing : ℕ → List ℤ → List (List ℤ) → List ℕ
-sharing level ps all = filter (λ k. shares level ps (slice_index_or all k [])) (range_with_len 0 (length all))
+sharing level ps all =
+    filter (λ k. shares level ps (slice_index_or all k [])) (range_with_len 0 (length all))
 
 -- the numbers, ascending, of the pieces in the group of (s, level): those that share that level with piece s
 abbrev pub group : List Element → ℕ → ℕ → List ℕ
-group list s level = filter (λ k. in_group list s level (piece list k)) (range_with_len 0 (length (pieces list)))
+group list s level =
+    filter (λ k. in_group list s level (piece list k)) (range_with_len 0 (length (pieces list)))

@@ -15,4 +15,5 @@ abbrev pub negated_range : Range → Range
 negated_range b = record { low = neg_ℤ b.high; high = neg_ℤ b.low }
 
 abbrev pub negated : Rows → Rows
-negated s = record { vars = s.vars; rows = map negated_form s.rows; boxes = map negated_range s.boxes }
+negated s =
+    record { vars = s.vars; rows = map negated_form s.rows; boxes = map negated_range s.boxes }

@@ -17,11 +17,20 @@ abbrev pub next_places : List ℕ → List ℕ → List ℕ → List ℕ
 next_places [] closed places = zeros places
 next_places (b ∷ before) [] places = zeros places
 next_places (b ∷ before) (c ∷ closed) [] = []
-next_places (b ∷ before) (c ∷ closed) (p ∷ places) = next_by (nat_eq b p) c places (next_places before closed places)
+next_places (b ∷ before) (c ∷ closed) (p ∷ places) =
+    next_by (nat_eq b p) c places (next_places before closed places)
 
 -- the piece at other places
 abbrev pub placed : Piece → List ℕ → Piece
-placed p places = record { label = p.label; body = p.body; levels = p.levels; hidden = p.hidden; system = p.system; origin = p.origin; places = places }
+placed p places = record {
+  label = p.label;
+  body = p.body;
+  levels = p.levels;
+  hidden = p.hidden;
+  system = p.system;
+  origin = p.origin;
+  places = places;
+}
 
 -- the pieces, each at its new places
 abbrev pub all_placed : List Piece → List (List ℕ) → List Piece

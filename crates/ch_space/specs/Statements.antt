@@ -15,6 +15,14 @@ pub record Statement : Type 0 where
   pub levels : List Level
   pub places : List ℕ
 
+abbrev pub statement : ℕ → Body → List Level → List ℕ → Statement
+statement label body levels places = record {
+  label = label;
+  body = body;
+  levels = levels;
+  places = places;
+}
+
 -- the statements of an item, from the loops around it and its places
 abbrev pub Finding : Type 0
 Finding = List Level → List ℕ → List Statement
@@ -22,11 +30,13 @@ Finding = List Level → List ℕ → List Statement
 -- the items of a body stand at the places k, k + 1 and so on
 abbrev pub at_numbers : ℕ → List Finding → Finding
 at_numbers k [] levels places = []
-at_numbers k (f ∷ fs) levels places = f levels (places ++ k ∷ []) ++ at_numbers (suc k) fs levels places
+at_numbers k (f ∷ fs) levels places =
+    f levels (places ++ k ∷ []) ++ at_numbers (suc k) fs levels places
 
 abbrev pub statements_step : Item-F Finding → Finding
-statements_step (Item-F.Loop lows highs items) levels places = at_numbers 0 items (levels ++ record { lows = lows; highs = highs } ∷ []) places
-statements_step (Item-F.Assign label body) levels places = record { label = label; body = body; levels = levels; places = places } ∷ []
+statements_step (Item-F.Loop lows highs items) levels places =
+    at_numbers 0 items (levels ++ record { lows = lows; highs = highs } ∷ []) places
+statements_step (Item-F.Assign label body) levels places = statement label body levels places ∷ []
 
 abbrev pub statements_of : Item → Finding
 statements_of = fold-Item Finding statements_step
@@ -44,7 +54,8 @@ sum_turns (suc n) low inner = sum_turns n low inner + inner (low +ℤ pos n)
 abbrev pub turns_below : List Level → List ℤ → ℕ
 turns_below [] point = 1
 turns_below (l ∷ ls) point =
-    sum_turns (count (low_of l.lows point) (high_of l.highs point)) (low_of l.lows point) (λ i. turns_below ls (point ++ i ∷ []))
+    sum_turns (count (low_of l.lows point) (high_of l.highs point)) (low_of l.lows point)
+    (λ i. turns_below ls (point ++ i ∷ []))
 
 abbrev pub instances_of : Statement → ℕ
 instances_of s = turns_below s.levels []

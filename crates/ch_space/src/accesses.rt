@@ -149,7 +149,8 @@ pub(crate) fn first_leaving(
     requires fits { IsTrue (body_fits arrays.now (length point.now) body.now) }
     requires near { IsNear point.now }
     requires few { before + access_count body.now < 2 ^ 32 }
-    ensures { IfOk result (λ leaving. leaving ≡ first_leaving arrays.now point.now before (text_accesses body.now)) }
+    ensures { IfOk result (λ leaving.
+        leaving ≡ first_leaving arrays.now point.now before (text_accesses body.now)) }
 {
     let accesses = text_accesses(alloc, body)?;
     leaving_from(alloc, arrays, accesses.as_slice(), point, before)
@@ -167,7 +168,8 @@ fn leaving_from(
     requires fit { IsTrue (list_all (access_fits arrays.now (length point.now)) accesses.now) }
     requires near { IsNear point.now }
     requires few { number + length accesses.now < 2 ^ 32 }
-    ensures { IfOk result (λ leaving. leaving ≡ first_leaving arrays.now point.now number accesses.now) }
+    ensures { IfOk result (λ leaving.
+        leaving ≡ first_leaving arrays.now point.now number accesses.now) }
 {
     let mut here = number;
     for access in accesses {

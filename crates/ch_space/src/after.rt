@@ -36,6 +36,7 @@ impl Timed for Space {
     }
 }
 
+/// The next element of some pieces: the least of those that come next in each.
 fn next_of(alloc: Global, pieces: &[Piece], vector: &[i64]) -> Result<Option<Element>, AllocError>
     requires apart { AreApart pieces.now }
     requires near { All (λ e. All (IsAtMost (2 ^ 54)) e.identity.iters) (listed pieces.now) }
@@ -48,6 +49,7 @@ fn next_of(alloc: Global, pieces: &[Piece], vector: &[i64]) -> Result<Option<Ele
     Ok(next)
 }
 
+/// The one whose vector comes first.
 fn earlier(first: Option<Element>, second: Option<Element>) -> Option<Element>
     ensures { result ≡ earlier first second }
 {
@@ -55,7 +57,8 @@ fn earlier(first: Option<Element>, second: Option<Element>) -> Option<Element>
         (None, second) => second,
         (first, None) => first,
         (Some(first), Some(second)) => {
-            if second.vector.as_slice().cmp(first.vector.as_slice()).is_lt() {
+            let order = second.vector.as_slice().cmp(first.vector.as_slice());
+            if order.is_lt() {
                 Some(second)
             } else {
                 Some(first)
@@ -83,6 +86,7 @@ fn element_after(
     }
 }
 
+/// The element of a piece at one of its instances.
 fn element_at(alloc: Global, piece: &Piece, instance: &[i64]) -> Result<Element, AllocError>
     requires whole { IsWhole piece.now }
     requires one { In instance.now (instances piece.now) }
@@ -124,7 +128,9 @@ fn least_after(
 ) -> Result<Option<List<i64>>, AllocError>
     requires whole { IsWhole piece.now }
     requires long { length fixed.now + length places.now ≡ piece.now.levels + 1 }
-    ensures { IfOk result (λ least. IsLeast (BeginsWith fixed.now (ComesAfter (map pos places.now) vector.now)) (instances piece.now) least) }
+    ensures { IfOk result (λ least. IsLeast
+        (BeginsWith fixed.now (ComesAfter (map pos places.now) vector.now))
+        (instances piece.now) least) }
 {
     let Some((place, inner)) = places.split_first() else {
         return Ok(None);
@@ -151,14 +157,11 @@ fn least_after(
 }
 
 /// The least instance that begins with `fixed`.
-fn least_with(
-    alloc: Global,
-    piece: &Piece,
-    fixed: &[i64],
-) -> Result<Option<List<i64>>, AllocError>
+fn least_with(alloc: Global, piece: &Piece, fixed: &[i64]) -> Result<Option<List<i64>>, AllocError>
     requires whole { IsWhole piece.now }
     requires few { length fixed.now ≤ piece.now.levels }
-    ensures { IfOk result (λ least. IsLeast (BeginsWith fixed.now IsAny) (instances piece.now) least) }
+    ensures { IfOk result (λ least.
+        IsLeast (BeginsWith fixed.now IsAny) (instances piece.now) least) }
 {
     let front = singles(alloc, fixed)?;
     least_in(alloc, piece, front.as_slice())
@@ -173,7 +176,8 @@ fn least_beyond(
 ) -> Result<Option<List<i64>>, AllocError>
     requires whole { IsWhole piece.now }
     requires few { length fixed.now < piece.now.levels }
-    ensures { IfOk result (λ least. IsLeast (BeginsWith fixed.now (IsAbove value)) (instances piece.now) least) }
+    ensures { IfOk result (λ least.
+        IsLeast (BeginsWith fixed.now (IsAbove value)) (instances piece.now) least) }
 {
     known(&piece.system);
     if value >= FARTHEST {
@@ -202,11 +206,7 @@ fn singles(alloc: Global, values: &[i64]) -> Result<List<Range>, AllocError>
 }
 
 /// The least instance whose first values are in these ranges.
-fn least_in(
-    alloc: Global,
-    piece: &Piece,
-    front: &[Range],
-) -> Result<Option<List<i64>>, AllocError>
+fn least_in(alloc: Global, piece: &Piece, front: &[Range]) -> Result<Option<List<i64>>, AllocError>
     requires whole { IsWhole piece.now }
     requires few { length front.now ≤ piece.now.levels }
     ensures { IfOk result (λ least. IsLeast (BeginsIn front.now) (instances piece.now) least) }
@@ -250,7 +250,9 @@ fn narrowed(
     front: &[Range],
 ) -> Result<Option<List<Range>>, AllocError>
     requires { All IsBox boxes.now }
-    ensures { IfOk result (λ some. MatchOption some (HasEmpty (narrowed boxes.now front.now)) (λ narrow. (narrow ≡ narrowed boxes.now front.now) × All IsBox narrow)) }
+    ensures { IfOk result (λ some. MatchOption some
+        (HasEmpty (narrowed boxes.now front.now))
+        (λ narrow. (narrow ≡ narrowed boxes.now front.now) × All IsBox narrow)) }
 {
     let mut narrow = List::with_capacity(alloc, boxes.len())?;
     for k in 0..boxes.len() {

@@ -99,7 +99,10 @@ fn vectors_of_any_length(rt: HostRuntime) -> Result<(), Fail> {
     assert_eq!(rt; named_after(alloc, &space, &[-1, 9])?, Some((first, 1)));
     assert_eq!(rt; named_after(alloc, &space, &[0, 2])?, Some((first, 2)));
     assert_eq!(rt; named_after(alloc, &space, &[0, 2, 0])?, Some((second, 2)));
-    assert_eq!(rt; named_after(alloc, &space, &[0, 2, 0, 5])?, Some((second, 2)));
+    assert_eq!(rt;
+        named_after(alloc, &space, &[0, 2, 0, 5])?,
+        Some((second, 2))
+    );
     assert_eq!(rt; named_after(alloc, &space, &[0, 2, 1])?, Some((first, 3)));
     assert_eq!(rt; named_after(alloc, &space, &[0, 3, 1])?, None);
     assert_eq!(rt; named_after(alloc, &space, &[0, i64::MAX])?, None);

@@ -96,7 +96,7 @@ pub fn copied_body(alloc: Global, body: &Body) -> Result<Body, AllocError>
 }
 
 /// A piece of its own with the same elements.
-pub(crate) fn copied_piece(alloc: Global, piece: &Piece) -> Result<Piece, AllocError>
+fn copied_piece(alloc: Global, piece: &Piece) -> Result<Piece, AllocError>
     ensures { IfOk result (λ copy. copy ≡ piece.now) }
 {
     Ok(Piece {

@@ -22,8 +22,10 @@ use std::alloc::{AllocError, Global};
 /// The identities of the first and the last element of a piece in the list.
 pub fn ends(alloc: Global, space: &Space, number: u32) -> Result<(Identity, Identity), AllocError>
     requires { number < length (pieces space.now.list) }
-    ensures first { IfOk result (λ both. first (identities (members space.now.list number)) ≡ Some both.0) }
-    ensures last { IfOk result (λ both. last (identities (members space.now.list number)) ≡ Some both.1) }
+    ensures first { IfOk result (λ both.
+        first (identities (members space.now.list number)) ≡ Some both.0) }
+    ensures last { IfOk result (λ both.
+        last (identities (members space.now.list number)) ≡ Some both.1) }
 {
     let all = space.pieces.as_slice();
     ends_of(alloc, &all[number as usize])
@@ -119,7 +121,11 @@ fn opposite(alloc: Global, numbers: &[i64]) -> Result<List<i64>, AllocError>
 }
 
 /// The identity of a piece's element at one of its instances.
-pub(crate) fn identity_at(alloc: Global, piece: &Piece, instance: &[i64]) -> Result<Identity, AllocError>
+pub(crate) fn identity_at(
+    alloc: Global,
+    piece: &Piece,
+    instance: &[i64],
+) -> Result<Identity, AllocError>
     requires whole { IsWhole piece.now }
     requires one { In instance.now (instances piece.now) }
     requires near { All (λ e. All (IsAtMost (2 ^ 54)) e.identity.iters) (elements piece.now) }

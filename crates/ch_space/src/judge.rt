@@ -6,10 +6,8 @@ ghost use Rattle.ch_nest.specs.Limits.{deepest};
 ghost use Rattle.ch_nest.specs.LoopNest.{LoopNest};
 ghost use Rattle.ch_nest.specs.Shape.{body_fits};
 ghost use Rattle.ch_nest.specs.Sound.{is_sound, item_work, items_work};
-ghost use Rattle.ch_space.specs.Judged.{judgement, leaving};
-ghost use Rattle.ch_space.specs.Judged.{Judges};
-ghost use Rattle.ch_space.specs.JudgingWalk.{item_refusal, items_refusal, IsNear, Walks};
-ghost use Rattle.ch_timed.specs.declared.element.Label.TheVariants.{Stmt};
+ghost use Rattle.ch_space.specs.Judged.{judgement, leaving, Judges};
+ghost use Rattle.ch_space.specs.JudgingWalk.{instance, item_refusal, items_refusal, IsNear, Walks};
 
 use crate::accesses::{accesses_before, first_leaving};
 use crate::error::SpaceError;
@@ -42,7 +40,7 @@ fn instance_refusal(
 ) -> Result<Option<SpaceError>, AllocError>
     requires fits { IsTrue (body_fits nest.now.arrays (length point.now) body.now) }
     requires near { IsNear point.now }
-    ensures { IfOk result (λ refusal. refusal ≡ leaving nest.now (record { identity = record { label = Stmt label; iters = point.now }; vector = []; body = body.now })) }
+    ensures { IfOk result (λ refusal. refusal ≡ leaving nest.now (instance label point.now body.now)) }
 {
     nest.known();
     let arrays = nest.arrays.as_slice();
@@ -78,7 +76,7 @@ fn walk_instance(
 ) -> Result<Walk, SpaceError>
     requires fits { IsTrue (body_fits nest.now.arrays (length point.now) body.now) }
     requires near { IsNear point.now }
-    ensures { Walks result 1 (leaving nest.now (record { identity = record { label = Stmt label; iters = point.now }; vector = []; body = body.now })) walk }
+    ensures { Walks result 1 (leaving nest.now (instance label point.now body.now)) walk }
 {
     let Walk { left, found } = walk;
     if left == 0 {
@@ -125,7 +123,8 @@ fn walk_items(
 ) -> Result<Walk, SpaceError>
     requires at { AreAt nest.now.arrays items.now point.now }
     requires shallow { length point.now ≤ deepest }
-    ensures { Walks result (items_work items.now point.now) (items_refusal nest.now items.now point.now) walk }
+    ensures { Walks result (items_work items.now point.now)
+        (items_refusal nest.now items.now point.now) walk }
 {
     let mut walk = walk;
     for item in items {
@@ -144,7 +143,8 @@ fn walk_item(
 ) -> Result<Walk, SpaceError>
     requires at { IsAt nest.now.arrays item.now point.now }
     requires shallow { length point.now ≤ deepest }
-    ensures { Walks result (item_work item.now point.now) (item_refusal nest.now item.now point.now) walk }
+    ensures { Walks result (item_work item.now point.now)
+        (item_refusal nest.now item.now point.now) walk }
 {
     match item {
         Item::Assign { label, body } => walk_instance(alloc, nest, *label, body, point, walk),

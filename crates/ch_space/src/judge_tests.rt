@@ -90,12 +90,7 @@ fn outcome_of(judgement: Result<(), SpaceError>) -> Outcome {
 }
 
 /// What is judged of such a nest.
-fn judge(
-    alloc: Global,
-    high: i64,
-    first: [Place; 3],
-    second: [Place; 3],
-) -> Result<Outcome, Fail> {
+fn judge(alloc: Global, high: i64, first: [Place; 3], second: [Place; 3]) -> Result<Outcome, Fail> {
     let nest = nest(alloc, high, first, second)?;
     Ok(outcome_of(judged(alloc, &nest)))
 }

@@ -26,7 +26,8 @@ pub(crate) fn levels_inside(
     lows: &[Aff],
     highs: &[Aff],
 ) -> Result<List<Level>, AllocError>
-    ensures { IfOk result (λ inside. inside ≡ levels.now ++ record { lows = lows.now; highs = highs.now } ∷ []) }
+    ensures { IfOk result (λ inside.
+        inside ≡ levels.now ++ record { lows = lows.now; highs = highs.now } ∷ []) }
 {
     let mut inside = List::new(alloc);
     for level in levels {

@@ -2,7 +2,7 @@ ghost use Rattle.std.specs.Prelude.{◌≡◌, ◌≤◌, ◌+◌, [], ◌∷◌
 ghost use Rattle.ch_nest.specs.Limits.{deepest};
 ghost use Rattle.ch_space.specs.Built.{piece_of};
 ghost use Rattle.ch_space.specs.Fitting.{capped, Adds, AreBelow, IsBelow, LevelsFit};
-ghost use Rattle.ch_space.specs.Statements.{at_numbers, instances_of, statements_of};
+ghost use Rattle.ch_space.specs.Statements.{at_numbers, instances_of, statement, statements_of};
 
 use crate::copies::copied_body;
 use crate::level::{Level, levels_inside, places_inside};
@@ -31,7 +31,8 @@ fn piece_of(
 ) -> Result<Piece, AllocError>
     requires fit { LevelsFit [] levels.now }
     requires few { length levels.now ≤ deepest }
-    ensures { IfOk result (λ piece. piece ≡ piece_of (record { label = label; body = body.now; levels = levels.now; places = places.now })) }
+    ensures { IfOk result (λ piece.
+        piece ≡ piece_of (statement label body.now levels.now places.now)) }
 {
     let rows = rows_of(alloc, levels)?;
     let boxes = boxes_of(alloc, levels)?;
@@ -66,7 +67,8 @@ fn add_statement(
 ) -> Result<(), AllocError>
     requires fit { LevelsFit [] levels.now }
     requires few { length levels.now ≤ deepest }
-    ensures { OnOk result (Adds (record { label = label; body = body.now; levels = levels.now; places = places.now } ∷ []) found.old found.new) }
+    ensures { OnOk result
+        (Adds (statement label body.now levels.now places.now ∷ []) found.old found.new) }
 {
     let count = turns_up_to(levels, &[]);
     if count == 0 {
@@ -89,7 +91,8 @@ pub(crate) fn find_items(
     found: &mut Found,
 ) -> Result<(), AllocError>
     requires below { AreBelow items.now levels.now }
-    ensures { OnOk result (Adds (at_numbers 0 (map statements_of items.now) levels.now places.now) found.old found.new) }
+    ensures { OnOk result (Adds
+        (at_numbers 0 (map statements_of items.now) levels.now places.now) found.old found.new) }
 {
     for k in 0..items.len() {
         let places_here = places_inside(alloc, places, k as u32)?;
@@ -108,7 +111,8 @@ fn find_item(
     found: &mut Found,
 ) -> Result<(), AllocError>
     requires below { IsBelow item.now levels.now }
-    ensures { OnOk result (Adds (statements_of item.now levels.now places.now) found.old found.new) }
+    ensures { OnOk result
+        (Adds (statements_of item.now levels.now places.now) found.old found.new) }
 {
     match item {
         Item::Assign { label, body } => {

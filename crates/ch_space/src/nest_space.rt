@@ -1,6 +1,5 @@
 ghost use Rattle.std.specs.Prelude.{◌≡◌, ◌≤◌, [], length, IfOk};
-ghost use Rattle.ch_space.specs.Judged.{judgement};
-ghost use Rattle.ch_space.specs.Judged.{Judges};
+ghost use Rattle.ch_space.specs.Judged.{judgement, Judges};
 ghost use Rattle.ch_nest.specs.Limits.{most_work};
 ghost use Rattle.ch_nest.specs.Sound.{items_work};
 ghost use Rattle.ch_timed.specs.Start.{start};
@@ -16,7 +15,13 @@ use std::alloc::{AllocError, Global};
 /// The space of a nest that does not take too many turns.
 pub fn space_of(alloc: Global, nest: &Nest) -> Result<Space, AllocError>
     requires few { items_work nest.now.items [] ≤ most_work }
-    ensures { IfOk result (λ space. space ≡ record { list = start nest.now; arrays = length nest.now.arrays; temps = []; weight = 1; commands = 0 }) }
+    ensures { IfOk result (λ space. space ≡ record {
+      list = start nest.now;
+      arrays = length nest.now.arrays;
+      temps = [];
+      weight = 1;
+      commands = 0;
+    }) }
 {
     let mut found = Found {
         pieces: List::new(alloc),

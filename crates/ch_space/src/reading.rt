@@ -81,7 +81,8 @@ fn numbers_sharing(
     level: usize,
 ) -> Result<List<u32>, AllocError>
     requires { length all.now < 2 ^ 32 }
-    ensures { IfOk result (λ numbers. numbers ≡ sharing level (map pos ours.now) (map places_of all.now)) }
+    ensures { IfOk result (λ numbers.
+        numbers ≡ sharing level (map pos ours.now) (map places_of all.now)) }
 {
     let mut numbers = List::new(alloc);
     for k in 0..all.len() {

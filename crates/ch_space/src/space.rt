@@ -33,7 +33,13 @@ impl Model for Space {
 
     ghost coded = { Prim.hlevel (codes, element.the_row.coded) };
 
-    ghost view = { λ s. record { list = listed s.pieces; arrays = s.arrays; temps = s.temps; weight = s.weight; commands = s.commands } };
+    ghost view = { λ s. record {
+      list = listed s.pieces;
+      arrays = s.arrays;
+      temps = s.temps;
+      weight = s.weight;
+      commands = s.commands;
+    } };
 
     ghost invariant = { λ s. IsSpace s.arrays s.pieces s.counts s.temps s.weight s.commands };
 }

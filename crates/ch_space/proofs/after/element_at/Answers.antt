@@ -1,4 +1,4 @@
-use Rattle.std.proofs.Common.{◌∙◌, sym, ap, length}
+use Rattle.std.proofs.Common.{◌∙◌, ap, length}
 use Rattle.ch_space.proofs.NextElements.{places_long}
 use Rattle.ch_space.proofs.after.element_at.Goals as goal
 

@@ -1,4 +1,4 @@
-use Rattle.std.proofs.Common.{◌∙◌, sym, ap, arith}
+use Rattle.std.proofs.Common.{◌∙◌, sym}
 use Rattle.ch_space.proofs.Narrowed.{empty_least, least_bound, none_least, some_least}
 use Rattle.ch_space.proofs.after.least_in.Goals as goal
 

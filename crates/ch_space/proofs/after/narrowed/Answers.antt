@@ -1,4 +1,4 @@
-use Rattle.std.proofs.Common.{◌≡◌, ◌∙◌, sym, subst, ◌<ℤ◌, ◌≤ℤ◌, get_or, length, pos, arith, rules, SFits, w64}
+use Rattle.std.proofs.Common.{◌≡◌, ◌∙◌, sym, subst, ◌<ℤ◌, ◌≤ℤ◌, get_or, pos, arith, rules, SFits, w64}
 use Rattle.std.proofs.lemmas.Int.{ints, to_z-of_z}
 use Rattle.ch_affine.specs.Rows.{IsBox}
 use Rattle.ch_affine.specs.declared.system.Range.{Range}

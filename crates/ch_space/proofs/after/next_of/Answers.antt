@@ -1,4 +1,4 @@
-use Rattle.std.proofs.Common.{subst, sym, get_or, take, arith}
+use Rattle.std.proofs.Common.{subst}
 use Rattle.std.specs.List.{flat_map}
 use Rattle.std.proofs.lemmas.List.{take_all}
 use Rattle.ch_space.specs.Following.{IsNext}

@@ -1,4 +1,4 @@
-use Rattle.std.proofs.Common.{◌+◌, get_or, pos, rules, SFits, w64}
+use Rattle.std.proofs.Common.{get_or, pos, rules, SFits, w64}
 use Rattle.std.proofs.lemmas.Int.{to_z-of_z}
 use Rattle.ch_space.proofs.NextElements.{woven_more}
 use Rattle.ch_space.proofs.after.woven.Goals as goal
