@@ -1,5 +1,5 @@
 -- One more program.
-use Rattle.std.proofs.Common.{◌≡◌, ℕ, zero, suc, ◌+◌, ◌-◌, ◌<◌, ◌≤◌, Bool, true, false, not, ◌||◌, List, [], ◌∷◌, ◌++◌, length, map, take, drop, get_or, subst, Option, None, Result, Ok, Err, refl, sym, ap, arith, length-append, lt-ltb}
+use Rattle.std.proofs.Common.{◌≡◌, ℕ, zero, suc, ◌+◌, ◌-◌, ◌<◌, ◌≤◌, Bool, true, false, not, ◌||◌, List, [], ◌∷◌, ◌++◌, length, map, take, drop, get_or, subst, Option, None, Result, Ok, Err, refl, sym, ap, ◌∙◌, ◌⊎◌, inl, inr, arith, length-append, lt-ltb}
 use Rattle.std.specs.Bool.{IsTrue}
 use Rattle.std.specs.List.{All}
 use Rattle.std.specs.Prelude.{IfOk}
@@ -16,7 +16,7 @@ use Rattle.ch_deck.specs.declared.refusal.Refused.{Refused}
 use Rattle.ch_deck.specs.declared.sections.Found.{Found}
 use Rattle.ch_deck.specs.Judged.{IsSound, program_of}
 use Rattle.ch_deck.specs.Programs.{IsDeck, IsProgram, has_name, names_differ}
-use Rattle.ch_deck.specs.Sections.{AreFound, IsRead, IsNew, end_of, names, section_from, sections_from}
+use Rattle.ch_deck.specs.Sections.{AreFound, IsRead, IsNew, end_of, most_sections, names, section_from, sections_from}
 
 -- names
 
@@ -76,6 +76,18 @@ sections_more (suc left) bytes tokens from found new f some l e n = rw (lt-ltb f
 pub end_more : (from : ℕ) (found : List Found) (f : Found) → end_of from (found ++ f ∷ []) ≡ f.program.next
 end_more from [] f = refl
 end_more from (x ∷ found) f = end_more x.program.next found f
+
+pub reached_more : (found new : List Found) (f : Found) → new ≡ found ++ f ∷ [] → end_of 0 new ≡ f.program.next
+reached_more found new f e = rw e (end_more 0 found f)
+
+pub enough_more : (found new : List Found) (f : Found) (left : ℕ) → most_sections ≤ length found + left → (left ≡ 0 → ⊥) → new ≡ found ++ f ∷ [] → most_sections ≤ length new + (left - 1)
+enough_more found new f left h n e = let l = length-append found (f ∷ []) in rw e (omega (arith, h, l, n))
+
+-- where no section is left or no token, there is no token left
+pub all_reached : (found : List Found) (left from count : ℕ) → AreFound found → most_sections ≤ length found + left → end_of 0 found ≡ from → from ≤ count → (left ≡ 0) ⊎ (count ≤ from)
+    → end_of 0 found ≡ count
+all_reached found left from count a h e l (inl z) = let f = a.few in absurd (omega (arith, f, h, z))
+all_reached found left from count a h e l (inr g) = e ∙ omega (arith, l, g)
 
 pub cut_few : (bytes : List ℕ) (at : ℕ) (ts : List Token) → at ≤ length bytes → IsCut bytes at ts → at + length ts ≤ length bytes
 cut_few bytes at [] l h = omega (arith, l)

@@ -1,3 +1,4 @@
 pub mod Spots
 pub mod Named
+pub mod TextOrders
 pub mod Growing
