@@ -40,18 +40,45 @@ fn four_cells(alloc: Global) -> Result<ArrayDecl, AllocError> {
     Ok(ArrayDecl { name, extents })
 }
 
-/// A loop over i from 1 to 3 with `A[i] = B[i - 1]` and `B[i] = A[i]`.
-fn pipeline(alloc: Global) -> Result<Nest, Fail> {
-    let first = assign(alloc, 0, access(alloc, 0, 0)?, access(alloc, 1, -1)?)?;
-    let second = assign(alloc, 1, access(alloc, 1, 0)?, access(alloc, 0, 0)?)?;
-    let mut items = one(alloc, first)?;
-    items.push(second)?;
-    let lows = one(alloc, form(alloc, &[], 1)?)?;
-    let highs = one(alloc, form(alloc, &[], 3)?)?;
-    let top = Item::Loop { lows, highs, items };
+fn two_arrays(alloc: Global) -> Result<List<ArrayDecl>, AllocError> {
     let mut arrays = one(alloc, four_cells(alloc)?)?;
     arrays.push(four_cells(alloc)?)?;
-    let nest = Nest::new(arrays, one(alloc, top)?).ok_or("a nest")?;
+    Ok(arrays)
+}
+
+/// `A[i] = B[i - 1]`
+fn first_statement(alloc: Global) -> Result<Item, Fail> {
+    let write = access(alloc, 0, 0)?;
+    let read = access(alloc, 1, -1)?;
+    Ok(assign(alloc, 0, write, read)?)
+}
+
+/// `B[i] = A[i]`
+fn second_statement(alloc: Global) -> Result<Item, Fail> {
+    let write = access(alloc, 1, 0)?;
+    let read = access(alloc, 0, 0)?;
+    Ok(assign(alloc, 1, write, read)?)
+}
+
+fn both(alloc: Global) -> Result<List<Item>, Fail> {
+    let first = first_statement(alloc)?;
+    let second = second_statement(alloc)?;
+    let mut items = one(alloc, first)?;
+    items.push(second)?;
+    Ok(items)
+}
+
+/// A loop over i from 1 to 3.
+fn top(alloc: Global, items: List<Item>) -> Result<Item, Fail> {
+    let lows = one(alloc, form(alloc, &[], 1)?)?;
+    let highs = one(alloc, form(alloc, &[], 3)?)?;
+    Ok(Item::Loop { lows, highs, items })
+}
+
+/// A loop over i from 1 to 3 with `A[i] = B[i - 1]` and `B[i] = A[i]`.
+fn pipeline(alloc: Global) -> Result<Nest, Fail> {
+    let items = one(alloc, top(alloc, both(alloc)?)?)?;
+    let nest = Nest::new(two_arrays(alloc)?, items).ok_or("a nest")?;
     Ok(nest)
 }
 
