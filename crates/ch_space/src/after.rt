@@ -22,7 +22,7 @@ use ch_timed::{Element, Timed};
 use std::alloc::{AllocError, Global};
 
 /// The greatest magnitude of an end of a system's range.
-const FARTHEST: i64 = 1 << 54;
+const RANGE_LIMIT: i64 = 1 << 54;
 
 impl Timed for Space {
     ghost list = { λ s. s.list };
@@ -117,8 +117,8 @@ fn woven(alloc: Global, places: &[u32], values: &[i64]) -> Result<List<i64>, All
     Ok(vector)
 }
 
-/// The least instance of a piece that begins with `fixed` and with the places behind makes a vector after the given one, which
-/// is what is left of one that was like the instance so far.
+/// The least instance of a piece that begins with `fixed` and whose vector from there on comes after this one. `places` are those
+/// that are left, one more than the levels behind `fixed`.
 fn least_after(
     alloc: Global,
     piece: &Piece,
@@ -180,13 +180,13 @@ fn least_beyond(
         IsLeast (BeginsWith fixed.now (IsAbove value)) (instances piece.now) least) }
 {
     known(&piece.system);
-    if value >= FARTHEST {
+    if value >= RANGE_LIMIT {
         return Ok(None);
     }
     let mut front = singles(alloc, fixed)?;
     front.push(Range {
         low: value + 1,
-        high: FARTHEST,
+        high: RANGE_LIMIT,
     })?;
     least_in(alloc, piece, front.as_slice())
 }

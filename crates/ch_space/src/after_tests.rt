@@ -1,6 +1,6 @@
 //! The elements of a loop with two statements, one after another.
 
-use crate::{Space, count, of_nest};
+use crate::{Space, of_nest};
 use ch_affine::{Aff, List, Text};
 use ch_nest::{Access, ArrayDecl, Body, Expr, Item, Nest, Sub};
 use ch_timed::{Element, Label, Timed};
@@ -40,18 +40,45 @@ fn four_cells(alloc: Global) -> Result<ArrayDecl, AllocError> {
     Ok(ArrayDecl { name, extents })
 }
 
-/// A loop over i from 1 to 3 with `A[i] = B[i - 1]` and `B[i] = A[i]`.
-fn pipeline(alloc: Global) -> Result<Nest, Fail> {
-    let first = assign(alloc, 0, access(alloc, 0, 0)?, access(alloc, 1, -1)?)?;
-    let second = assign(alloc, 1, access(alloc, 1, 0)?, access(alloc, 0, 0)?)?;
-    let mut items = one(alloc, first)?;
-    items.push(second)?;
-    let lows = one(alloc, form(alloc, &[], 1)?)?;
-    let highs = one(alloc, form(alloc, &[], 3)?)?;
-    let top = Item::Loop { lows, highs, items };
+fn two_arrays(alloc: Global) -> Result<List<ArrayDecl>, AllocError> {
     let mut arrays = one(alloc, four_cells(alloc)?)?;
     arrays.push(four_cells(alloc)?)?;
-    let nest = Nest::new(arrays, one(alloc, top)?).ok_or("a nest")?;
+    Ok(arrays)
+}
+
+/// `A[i] = B[i - 1]`
+fn first_statement(alloc: Global) -> Result<Item, Fail> {
+    let write = access(alloc, 0, 0)?;
+    let read = access(alloc, 1, -1)?;
+    Ok(assign(alloc, 0, write, read)?)
+}
+
+/// `B[i] = A[i]`
+fn second_statement(alloc: Global) -> Result<Item, Fail> {
+    let write = access(alloc, 1, 0)?;
+    let read = access(alloc, 0, 0)?;
+    Ok(assign(alloc, 1, write, read)?)
+}
+
+fn both(alloc: Global) -> Result<List<Item>, Fail> {
+    let first = first_statement(alloc)?;
+    let second = second_statement(alloc)?;
+    let mut items = one(alloc, first)?;
+    items.push(second)?;
+    Ok(items)
+}
+
+/// A loop over i from 1 to 3.
+fn top(alloc: Global, items: List<Item>) -> Result<Item, Fail> {
+    let lows = one(alloc, form(alloc, &[], 1)?)?;
+    let highs = one(alloc, form(alloc, &[], 3)?)?;
+    Ok(Item::Loop { lows, highs, items })
+}
+
+/// A loop over i from 1 to 3 with `A[i] = B[i - 1]` and `B[i] = A[i]`.
+fn pipeline(alloc: Global) -> Result<Nest, Fail> {
+    let items = one(alloc, top(alloc, both(alloc)?)?)?;
+    let nest = Nest::new(two_arrays(alloc)?, items).ok_or("a nest")?;
     Ok(nest)
 }
 
@@ -63,14 +90,16 @@ fn named(element: &Element) -> Option<(Label, i64)> {
     }
 }
 
-fn named_after(
+/// Whether the element after the vector has this name, or there is none and no name.
+fn comes_next(
     alloc: Global,
     space: &Space,
     vector: &[i64],
-) -> Result<Option<(Label, i64)>, AllocError> {
+    wanted: Option<(Label, i64)>,
+) -> Result<bool, AllocError> {
     match space.after(alloc, vector)? {
-        None => Ok(None),
-        Some(element) => Ok(named(&element)),
+        None => Ok(wanted.is_none()),
+        Some(element) => Ok(named(&element) == wanted),
     }
 }
 
@@ -78,34 +107,29 @@ fn named_after(
 fn all_elements_in_order(rt: HostRuntime) -> Result<(), Fail> {
     let alloc = rt.alloc();
     let space = of_nest(alloc, &pipeline(alloc)?)?;
+    let (first, second) = (Label::Stmt(0), Label::Stmt(1));
     let mut vector = List::new(alloc);
-    for turn in 0..count(&space) {
-        let element = space.after(alloc, vector.as_slice())?.ok_or("an element")?;
-        let label = Label::Stmt((turn % 2) as u32);
-        assert_eq!(rt; named(&element), Some((label, (turn / 2) as i64 + 1)));
-        vector = element.vector;
+    for i in 1..4 {
+        for label in [first, second] {
+            let element = space.after(alloc, vector.as_slice())?.ok_or("an element")?;
+            assert!(rt; named(&element) == Some((label, i)));
+            vector = element.vector;
+        }
     }
     assert!(rt; space.after(alloc, vector.as_slice())?.is_none());
     Ok(())
 }
 
 #[test]
-fn vectors_of_any_length(rt: HostRuntime) -> Result<(), Fail> {
+fn after_a_vector_of_any_length(rt: HostRuntime) -> Result<(), Fail> {
     let alloc = rt.alloc();
     let space = of_nest(alloc, &pipeline(alloc)?)?;
-    let first = Label::Stmt(0);
-    let second = Label::Stmt(1);
-    assert_eq!(rt; named_after(alloc, &space, &[])?, Some((first, 1)));
-    assert_eq!(rt; named_after(alloc, &space, &[-1, 9])?, Some((first, 1)));
-    assert_eq!(rt; named_after(alloc, &space, &[0, 2])?, Some((first, 2)));
-    assert_eq!(rt; named_after(alloc, &space, &[0, 2, 0])?, Some((second, 2)));
-    assert_eq!(rt;
-        named_after(alloc, &space, &[0, 2, 0, 5])?,
-        Some((second, 2))
-    );
-    assert_eq!(rt; named_after(alloc, &space, &[0, 2, 1])?, Some((first, 3)));
-    assert_eq!(rt; named_after(alloc, &space, &[0, 3, 1])?, None);
-    assert_eq!(rt; named_after(alloc, &space, &[0, i64::MAX])?, None);
-    assert_eq!(rt; named_after(alloc, &space, &[1])?, None);
+    let (first, second) = (Label::Stmt(0), Label::Stmt(1));
+    assert!(rt; comes_next(alloc, &space, &[], Some((first, 1)))?);
+    assert!(rt; comes_next(alloc, &space, &[-1, 9], Some((first, 1)))?);
+    assert!(rt; comes_next(alloc, &space, &[0, 2, 0], Some((second, 2)))?);
+    assert!(rt; comes_next(alloc, &space, &[0, 2, 0, 5], Some((second, 2)))?);
+    assert!(rt; comes_next(alloc, &space, &[0, i64::MAX], None)?);
+    assert!(rt; comes_next(alloc, &space, &[1], None)?);
     Ok(())
 }
