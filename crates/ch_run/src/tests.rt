@@ -181,7 +181,10 @@ for (i = 0; i < 2; i++) for (j = 0; j <= i; j++) A[i][j] = 10*i + j; }",
 fn show_refuses_what_eval_does(rt: HostRuntime) -> Result<(), Fail> {
     let deck = b"program p { array A[4] = fill(0, 0);\nA[4] = 1; }".as_slice();
     let (status, written) = answer(rt.alloc(), "show", deck)?;
-    assert_eq!(rt; written.as_slice(), b"refused S2 at 2:1: S0() A[4]\n".as_slice());
+    assert_eq!(rt;
+        written.as_slice(),
+        b"refused S2 at 2:1: S0() A[4]\n".as_slice()
+    );
     assert_eq!(rt; status, 1);
     Ok(())
 }
