@@ -95,25 +95,48 @@ fn judge(alloc: Global, high: i64, first: [Place; 3], second: [Place; 3]) -> Res
     Ok(outcome_of(judged(alloc, &nest)))
 }
 
+/// Whether such a nest is judged so.
+fn is_judged(
+    alloc: Global,
+    high: i64,
+    first: [Place; 3],
+    second: [Place; 3],
+    wanted: Outcome,
+) -> Result<bool, Fail> {
+    let found = judge(alloc, high, first, second)?;
+    Ok(found == wanted)
+}
+
 /// Accesses that stay inside.
 const FINE: [Place; 3] = [(0, 0, 0), (1, 0, 9), (0, 0, 9)];
 
 #[test]
+fn a_nest_whose_accesses_stay_inside_is_sound(rt: HostRuntime) -> Result<(), Fail> {
+    let alloc = rt.alloc();
+    let inside = [(1, 1, 0), (0, 1, 0), (0, -1, 9)];
+    assert!(rt; is_judged(alloc, 9, FINE, inside, Outcome::Sound)?);
+    judgement_is_sound();
+    Ok(())
+}
+
+#[test]
+fn the_first_instance_that_leaves(rt: HostRuntime) -> Result<(), Fail> {
+    let alloc = rt.alloc();
+    let leaves = [(0, 2, 1), (1, 0, 0), (0, 0, 1)];
+    assert!(rt; is_judged(alloc, 9, leaves, FINE, Outcome::Leaves(0, 5, 0, 0, 11))?);
+    Ok(())
+}
+
+/// The accesses of the second statement are numbered after the three of the first one, the write before the reads.
+#[test]
 fn the_first_access_that_leaves(rt: HostRuntime) -> Result<(), Fail> {
     let alloc = rt.alloc();
-    let sound = judge(alloc, 9, FINE, [(1, 1, 0), (0, 1, 0), (0, -1, 9)])?;
-    assert_eq!(rt; sound, Outcome::Sound);
-    let in_the_sixth_turn = judge(alloc, 9, [(0, 2, 1), (1, 0, 0), (0, 0, 1)], FINE)?;
-    assert_eq!(rt; in_the_sixth_turn, Outcome::Leaves(0, 5, 0, 0, 11));
-    // Its accesses are numbered after the three of the first statement; both reads leave.
-    let both_reads = judge(alloc, 3, FINE, [(1, 1, 0), (0, 1, 8), (1, -1, 1)])?;
-    assert_eq!(rt; both_reads, Outcome::Leaves(1, 2, 4, 0, 10));
-    let second_read = judge(alloc, 3, FINE, [(1, 1, 0), (0, 1, 6), (1, -1, 1)])?;
-    assert_eq!(rt; second_read, Outcome::Leaves(1, 2, 5, 1, -1));
-    // The write counts before the reads.
-    let write = judge(alloc, 0, [(1, 0, 10), (0, 0, 12), (0, 0, 0)], FINE)?;
-    assert_eq!(rt; write, Outcome::Leaves(0, 0, 0, 1, 10));
-    judgement_is_sound();
+    let both_reads = [(1, 1, 0), (0, 1, 8), (1, -1, 1)];
+    assert!(rt; is_judged(alloc, 3, FINE, both_reads, Outcome::Leaves(1, 2, 4, 0, 10))?);
+    let second_read = [(1, 1, 0), (0, 1, 6), (1, -1, 1)];
+    assert!(rt; is_judged(alloc, 3, FINE, second_read, Outcome::Leaves(1, 2, 5, 1, -1))?);
+    let write = [(1, 0, 10), (0, 0, 12), (0, 0, 0)];
+    assert!(rt; is_judged(alloc, 0, write, FINE, Outcome::Leaves(0, 0, 0, 1, 10))?);
     Ok(())
 }
 
@@ -122,9 +145,15 @@ fn the_first_access_that_leaves(rt: HostRuntime) -> Result<(), Fail> {
 fn turns_count_before_accesses(rt: HostRuntime) -> Result<(), Fail> {
     let alloc = rt.alloc();
     let leaves = [(0, 1, -349523), (0, 0, 0), (0, 0, 0)];
-    let most = judge(alloc, 349524, FINE, leaves)?;
-    assert_eq!(rt; most, Outcome::Leaves(1, 0, 3, 0, -349523));
-    let too_many = judge(alloc, 349525, FINE, leaves)?;
-    assert_eq!(rt; too_many, Outcome::TooMany);
+    assert!(rt;
+        is_judged(
+            alloc,
+            349524,
+            FINE,
+            leaves,
+            Outcome::Leaves(1, 0, 3, 0, -349523)
+        )?
+    );
+    assert!(rt; is_judged(alloc, 349525, FINE, leaves, Outcome::TooMany)?);
     Ok(())
 }

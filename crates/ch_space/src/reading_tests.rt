@@ -38,57 +38,105 @@ fn assign(alloc: Global, label: u32, zeros: &[i64]) -> Result<Item, Fail> {
 }
 
 fn loop_of(alloc: Global, low: Aff, high: Aff, items: List<Item>) -> Result<Item, AllocError> {
-    Ok(Item::Loop {
-        lows: one(alloc, low)?,
-        highs: one(alloc, high)?,
-        items,
-    })
+    let lows = one(alloc, low)?;
+    let highs = one(alloc, high)?;
+    Ok(Item::Loop { lows, highs, items })
 }
 
-/// A loop without turns, and a loop with a statement and a loop up to its own iterator.
+/// A loop without turns.
+fn empty_loop(alloc: Global) -> Result<Item, Fail> {
+    let items = one(alloc, assign(alloc, 0, &[0])?)?;
+    let low = form(alloc, &[], 1)?;
+    let high = form(alloc, &[], 0)?;
+    Ok(loop_of(alloc, low, high, items)?)
+}
+
+/// A loop up to the iterator of the loop around it.
+fn inner_loop(alloc: Global) -> Result<Item, Fail> {
+    let items = one(alloc, assign(alloc, 2, &[0, 0])?)?;
+    let low = form(alloc, &[0], 0)?;
+    let high = form(alloc, &[1], 0)?;
+    Ok(loop_of(alloc, low, high, items)?)
+}
+
+fn body(alloc: Global) -> Result<List<Item>, Fail> {
+    let mut items = one(alloc, assign(alloc, 1, &[0])?)?;
+    items.push(inner_loop(alloc)?)?;
+    Ok(items)
+}
+
+fn outer_loop(alloc: Global) -> Result<Item, Fail> {
+    let items = body(alloc)?;
+    let low = form(alloc, &[], 0)?;
+    let high = form(alloc, &[], 2)?;
+    Ok(loop_of(alloc, low, high, items)?)
+}
+
+fn both_loops(alloc: Global) -> Result<List<Item>, Fail> {
+    let mut items = one(alloc, empty_loop(alloc)?)?;
+    items.push(outer_loop(alloc)?)?;
+    Ok(items)
+}
+
+fn one_cell(alloc: Global) -> Result<List<ArrayDecl>, AllocError> {
+    let extents = one(alloc, 1)?;
+    let name = Text::new(alloc);
+    one(alloc, ArrayDecl { name, extents })
+}
+
+/// A loop without turns, and a loop over i from 0 to 2 with a statement and a loop up to i.
 fn triangle(alloc: Global) -> Result<Nest, Fail> {
-    let never = loop_of(
-        alloc,
-        form(alloc, &[], 1)?,
-        form(alloc, &[], 0)?,
-        one(alloc, assign(alloc, 0, &[0])?)?,
-    )?;
-    let inner = loop_of(
-        alloc,
-        form(alloc, &[0], 0)?,
-        form(alloc, &[1], 0)?,
-        one(alloc, assign(alloc, 2, &[0, 0])?)?,
-    )?;
-    let mut body = one(alloc, assign(alloc, 1, &[0])?)?;
-    body.push(inner)?;
-    let outer = loop_of(alloc, form(alloc, &[], 0)?, form(alloc, &[], 2)?, body)?;
-    let mut items = one(alloc, never)?;
-    items.push(outer)?;
-    let array = ArrayDecl {
-        name: Text::new(alloc),
-        extents: one(alloc, 1)?,
-    };
-    let nest = Nest::new(one(alloc, array)?, items).ok_or("a well formed nest")?;
+    let items = both_loops(alloc)?;
+    let nest = Nest::new(one_cell(alloc)?, items).ok_or("a nest")?;
     Ok(nest)
 }
 
 #[test]
-fn pieces_are_read_and_closed_up(rt: HostRuntime) -> Result<(), Fail> {
+fn pieces_are_counted(rt: HostRuntime) -> Result<(), Fail> {
     let alloc = rt.alloc();
-    let mut space = of_nest(alloc, &triangle(alloc)?)
-        .ok()
-        .ok_or("a sound nest")?;
+    let space = of_nest(alloc, &triangle(alloc)?)?;
     assert_eq!(rt; count(&space), 9);
     assert_eq!(rt; pieces(&space), 2);
     assert_eq!(rt; piece_count(&space, 0), 3);
     assert_eq!(rt; piece_count(&space, 1), 6);
+    Ok(())
+}
+
+#[test]
+fn a_piece_has_a_label_and_places(rt: HostRuntime) -> Result<(), Fail> {
+    let alloc = rt.alloc();
+    let space = of_nest(alloc, &triangle(alloc)?)?;
+    assert_eq!(rt; pieces(&space), 2);
     assert_eq!(rt; label(&space, 1), Label::Stmt(2));
     assert_eq!(rt; places(&space, 1), [1, 1, 0].as_slice());
+    Ok(())
+}
+
+#[test]
+fn a_piece_has_ends(rt: HostRuntime) -> Result<(), Fail> {
+    let alloc = rt.alloc();
+    let space = of_nest(alloc, &triangle(alloc)?)?;
+    assert_eq!(rt; pieces(&space), 2);
     let (first, last) = ends(alloc, &space, 1)?;
     assert_eq!(rt; first.iters.as_slice(), [0, 0].as_slice());
     assert_eq!(rt; last.iters.as_slice(), [2, 2].as_slice());
+    Ok(())
+}
+
+#[test]
+fn pieces_that_share_a_level_are_a_group(rt: HostRuntime) -> Result<(), Fail> {
+    let alloc = rt.alloc();
+    let space = of_nest(alloc, &triangle(alloc)?)?;
+    assert_eq!(rt; pieces(&space), 2);
     assert_eq!(rt; group(alloc, &space, 0, 1)?.as_slice(), [0, 1].as_slice());
     assert_eq!(rt; group(alloc, &space, 1, 2)?.as_slice(), [1].as_slice());
+    Ok(())
+}
+
+#[test]
+fn places_are_closed_up_in_a_copy_too(rt: HostRuntime) -> Result<(), Fail> {
+    let alloc = rt.alloc();
+    let mut space = of_nest(alloc, &triangle(alloc)?)?;
     close_up(alloc, &mut space)?;
     let copy = copied_space(alloc, &space)?;
     assert_eq!(rt; pieces(&copy), 2);
