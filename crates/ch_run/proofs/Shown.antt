@@ -7,6 +7,7 @@ use Rattle.std.proofs.lemmas.List.{take_all}
 use Rattle.ch_code.specs.declared.code.Unit as unit
 use Rattle.ch_code.specs.Trace.{unit_trace}
 use Rattle.ch_code.specs.CodeText.{unit_text}
+use Rattle.ch_code.specs.WellFormed.{IsUnit}
 use Rattle.ch_deck.specs.declared.program.Program.{Program}
 use Rattle.ch_run.specs.Added.{Adds}
 use Rattle.ch_print.specs.Numbers.{number_text}
@@ -53,14 +54,14 @@ counts_added r old one two three four new p n a b c d e =
     on_ok (new ≡ four ++ codes "\n") (new ≡ old ++ (codes " legal pieces " ++ number_text p ++ codes " instances " ++ number_text n ++ codes "\n")) r
     (two_added old (codes " legal pieces " ++ number_text p ++ codes " instances " ++ number_text n) (codes "\n") four new abcd) e
 
-pub shown_added : {X E : Type 0} (p : Program) (r : Result X E) (list : List Element) (u : unit.Unit) (old one two new code : List ℕ) → list ≡ start p.nest → unit_trace u ≡ list → u.arrays ≡ p.nest.arrays
+pub shown_added : {X E : Type 0} (p : Program) (r : Result X E) (list : List Element) (u : unit.Unit) (old one two new code : List ℕ) → list ≡ start p.nest → IsUnit u → unit_trace u ≡ list → u.arrays ≡ p.nest.arrays
     → u.temps ≡ [] → one ≡ old ++ program_line p.name (length (pieces list)) (length list) → two ≡ one ++ piece_lines list → code ≡ unit_text u → OnOk r (new ≡ two ++ code) → OnOk r (Adds (Shows p) old new)
-shown_added p r list u old one two new code is t a e f g c h = on_ok (new ≡ two ++ code) (Adds (Shows p) old new) r added h
+shown_added p r list u old one two new code is k t a e f g c h = on_ok (new ≡ two ++ code) (Adds (Shows p) old new) r added h
   where
     added : new ≡ two ++ code → Adds (Shows p) old new
     added n = record {
       text = program_line p.name (length (pieces (start p.nest))) (length (start p.nest)) ++ piece_lines (start p.nest) ++ unit_text u;
-      fits = record { code = u; trace = t ∙ is; arrays = a; temps = e; written = refl };
+      fits = record { code = u; formed = k; trace = t ∙ is; arrays = a; temps = e; written = refl };
       added = subst (λ l. new ≡ old ++ (program_line p.name (length (pieces l)) (length l) ++ piece_lines l ++ unit_text u)) is
           (subst (λ t. new ≡ old ++ (program_line p.name (length (pieces list)) (length list) ++ piece_lines list ++ t)) c
           (three_added old (program_line p.name (length (pieces list)) (length list)) (piece_lines list) code one two new f g n));

@@ -4,6 +4,7 @@ use Rattle.std.specs.List.{flat_map, range_with_len}
 use Rattle.ch_code.specs.declared.code.Unit as unit
 use Rattle.ch_code.specs.Trace.{unit_trace}
 use Rattle.ch_code.specs.CodeText.{unit_text}
+use Rattle.ch_code.specs.WellFormed.{IsUnit}
 use Rattle.ch_deck.specs.declared.program.Program.{Program}
 use Rattle.ch_print.specs.Instances.{identity_text, label_text}
 use Rattle.ch_print.specs.Numbers.{number_text}
@@ -45,6 +46,7 @@ piece_lines list = flat_map (λ k. piece_line k (members list k)) (range_with_le
 -- the text shows the program
 pub record Shows (p : Program) (text : List ℕ) : Type 0 where
   pub code : unit.Unit
+  pub formed : IsUnit code
   pub trace : unit_trace code ≡ start p.nest
   pub arrays : code.arrays ≡ p.nest.arrays
   pub temps : code.temps ≡ []

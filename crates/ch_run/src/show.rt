@@ -1,5 +1,6 @@
 ghost use Rattle.std.specs.Prelude.{◌≡◌, ◌<◌, ◌++◌, pos, length, map, IfOk, IsTrue, OnOk};
 ghost use Rattle.std.specs.List.{All, flat_map, range_with_len};
+ghost use Rattle.ch_code.specs.WellFormed.{IsUnit};
 ghost use Rattle.ch_deck.specs.Programs.{IsProgram};
 ghost use Rattle.ch_nest.specs.Sound.{is_sound};
 ghost use Rattle.ch_run.specs.Added.{Adds};
@@ -9,7 +10,7 @@ ghost use Rattle.ch_timed.specs.Timed.{pieces};
 
 use crate::text::put_places;
 use ch_affine::Text;
-use ch_code::code_text;
+use ch_code::{Unit, code_text};
 use ch_codegen::generate;
 use ch_deck::Program;
 use ch_print::{put_identity, put_label, put_number};
@@ -98,6 +99,13 @@ fn put_pieces(alloc: Global, out: &mut Text, space: &Space) -> Result<(), AllocE
     Ok(())
 }
 
+/// Tells a caller what a unit keeps by its type. It does nothing.
+fn known_unit(unit: &Unit)
+    ensures { IsUnit unit.now }
+{
+    let _ = unit.temps.len();
+}
+
 /// Adds a program's pieces and code.
 fn put_shown(alloc: Global, out: &mut Text, program: &Program) -> Result<(), AllocError>
     requires { IsTrue (is_sound program.now.nest) }
@@ -107,6 +115,7 @@ fn put_shown(alloc: Global, out: &mut Text, program: &Program) -> Result<(), All
     put_program_line(out, &program.name, pieces(&space), count(&space))?;
     put_pieces(alloc, out, &space)?;
     let unit = generate(alloc, &program.nest, &space)?;
+    known_unit(&unit);
     let code = code_text(alloc, &unit)?;
     out.append(code.as_bytes())
 }
