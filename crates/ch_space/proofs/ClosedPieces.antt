@@ -163,7 +163,7 @@ space_closed arrays weight commands ps counts temps cs r s = record {
   few_commands = s.few_commands;
   some_weight = s.some_weight;
   small_weight = s.small_weight;
-  limited = all_by (IsLimited weight commands) (λ p c h. record { levels = h.levels; iterators = h.iterators; variables = h.variables; boxes = h.boxes }) ps cs s.limited;
+  limited = all_by (IsLimited weight commands) (λ p c h. record { levels = h.levels; iterators = h.iterators; variables = h.variables; boxes = h.boxes; origin = h.origin }) ps cs s.limited;
   bodies = all_by (λ p. IsBody arrays (length temps) (length p.origin) p.body) (λ p c h. h) ps cs s.bodies;
   agree = λ x y i j e. s.agree x y (subst (In x) (flat_placed (λ p. accesses p.body) (λ p c. refl) ps cs) i) (subst (In y) (flat_placed (λ p. accesses p.body) (λ p c. refl) ps cs) j) e;
   moves = all_by (λ p. IsMoveBelow (256 * commands) p.label) (λ p c h. h) ps cs s.moves;

@@ -1,11 +1,12 @@
 -- The pieces of a well formed nest keep the limits of a space.
-use Rattle.std.proofs.Common.{◌≡◌, refl, sym, ap, subst, ℕ, zero, suc, ◌+◌, ◌≤◌, ℤ, Bool, true, false, cond, ◌&&◌, nat_eq, nat_lt, Some, List, [], ◌∷◌, ◌++◌, length, map, arith, length-append}
+use Rattle.std.proofs.Common.{◌≡◌, refl, sym, ap, subst, ℕ, zero, suc, ◌+◌, ◌≤◌, ℤ, pos, Bool, true, false, cond, ◌&&◌, nat_eq, nat_lt, Some, List, [], ◌∷◌, ◌++◌, length, map, arith, length-append}
 use Rattle.std.specs.Bool.{IsTrue}
 use Rattle.std.specs.Option.{is_some}
 use Rattle.std.specs.List.{All, filter}
 use Rattle.std.proofs.lemmas.Bool.{and_parts, leb-true, ltb-true}
 use Rattle.std.proofs.lemmas.List.{take_all}
-use Rattle.std.proofs.lemmas.List.Elements.{All-nil, All-cons}
+use Rattle.std.proofs.lemmas.List.Elements.{All-nil, All-cons, All-append}
+use Rattle.ch_affine.specs.Affine.{IsAtMost}
 use Rattle.ch_affine.specs.declared.system.Range.{Range}
 use Rattle.ch_nest.specs.declared.nest.ArrayDecl.{ArrayDecl}
 use Rattle.ch_nest.specs.declared.nest.Body.{Body}
@@ -17,9 +18,9 @@ use Rattle.ch_nest.specs.LoopNest.{LoopNest}
 use Rattle.ch_nest.specs.Shape.{IsSmall, Numbering, all_numbered, arrays_fit, box_of, each_numbered, is_at_most, is_nest, items_fit, numbered, numbered_step}
 use Rattle.ch_space.specs.declared.level.Level.{Level}
 use Rattle.ch_space.specs.declared.piece.Piece.{Piece}
-use Rattle.ch_space.specs.Built.{boxes_from, piece_of, units}
+use Rattle.ch_space.specs.Built.{boxes_from, piece_of, unit, units, zeros}
 use Rattle.ch_space.specs.Fitting.{LevelsFit}
-use Rattle.ch_space.specs.Keeps.{IsBody, IsBounded, IsLimited, IsWrapped, accesses, farthest, most_pieces}
+use Rattle.ch_space.specs.Keeps.{IsBody, IsBounded, IsLimited, IsNarrow, IsWrapped, accesses, farthest, most_pieces}
 use Rattle.ch_space.specs.Pieces.{listed}
 use Rattle.ch_space.specs.Statements.{Finding, Statement, at_numbers, executed, instances_of, statements, statements_of, statements_step}
 use Rattle.ch_space.proofs.Builds.{levels_few}
@@ -124,6 +125,21 @@ pub length_units : (before n : ℕ) → length (units before n) ≡ n
 length_units before zero = refl
 length_units before (suc n) = ap suc (length_units (suc before) n)
 
+zeros_narrow : (n : ℕ) → All (IsAtMost 1) (zeros n)
+zeros_narrow zero = All-nil (IsAtMost 1)
+zeros_narrow (suc n) = All-cons (IsAtMost 1) (pos 0) (zeros n) (omega arith) (zeros_narrow n)
+
+unit_narrow : (before after : ℕ) → IsNarrow 1 0 (unit before after)
+unit_narrow before after = record {
+  coefs = All-append (IsAtMost 1) (zeros before) (pos 1 ∷ zeros after) (zeros_narrow before)
+      (All-cons (IsAtMost 1) (pos 1) (zeros after) (omega arith) (zeros_narrow after));
+  constant = omega arith;
+}
+
+units_narrow : (before n : ℕ) → All (IsNarrow 1 0) (units before n)
+units_narrow before zero = All-nil (IsNarrow 1 0)
+units_narrow before (suc n) = All-cons (IsNarrow 1 0) (unit before n) (units (suc before) n) (unit_narrow before n) (units_narrow (suc before) n)
+
 pub limited : (arrays : List ArrayDecl) (s : Statement) → IsFit arrays s → IsLimited 1 0 (piece_of s)
 limited arrays s fit =
     let few = levels_few [] s.levels fit.levels (omega arith) in
@@ -135,6 +151,7 @@ limited arrays s fit =
       boxes = subst (All (IsBounded (farthest 1 0)))
           (sym (take_all (length s.levels) (boxes_from [] s.levels) (let e = length_boxes [] s.levels in omega arith)))
           (boxes_bounded [] s.levels fit.levels);
+      origin = units_narrow 0 (length s.levels);
     }
 
 -- Where there are no buffers no subscript has a modulus.

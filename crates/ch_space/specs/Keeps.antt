@@ -5,6 +5,7 @@ use Rattle.std.specs.Ordering.{int_cmp}
 use Rattle.std.specs.declared.cmp.Ordering.TheVariants.{Less}
 use Rattle.std.specs.Cmp.Lexicographic.{slice_cmp}
 use Rattle.ch_affine.specs.Affine.{IsAtMost, value}
+use Rattle.ch_affine.specs.Form.{Form}
 use Rattle.ch_affine.specs.declared.system.Range.{Range}
 use Rattle.ch_nest.specs.declared.nest.Access.{Access}
 use Rattle.ch_nest.specs.declared.nest.Body.{Body}
@@ -104,6 +105,11 @@ pub record IsBounded (most : ℕ) (b : Range) : Type 0 where
   pub low : IsAtMost most b.low
   pub high : IsAtMost most b.high
 
+-- The form of an iterator over the levels: its numbers grow as those of the levels' values do.
+pub record IsNarrow (weight commands : ℕ) (f : Form) : Type 0 where
+  pub coefs : All (IsAtMost weight) f.coefs
+  pub constant : IsAtMost (farthest weight commands) f.constant
+
 -- How large a piece may be after so many commands that made this weight. The iterators of a statement are the levels of its nest,
 -- those of a move the levels that it was made with.
 pub record IsLimited (weight commands : ℕ) (p : Piece) : Type 0 where
@@ -111,6 +117,7 @@ pub record IsLimited (weight commands : ℕ) (p : Piece) : Type 0 where
   pub iterators : length p.origin ≤ most_levels
   pub variables : p.levels + p.hidden ≤ most_variables commands
   pub boxes : All (IsBounded (farthest weight commands)) (take p.levels p.system.boxes)
+  pub origin : All (IsNarrow weight commands) p.origin
 
 -- the form of a subscript with a modulus has a value of magnitude at most 2^54
 abbrev pub IsWrapped : List ℤ → Sub → Type 0
