@@ -2,6 +2,7 @@
 #![tactic(auto)]
 
 pub mod boxes;
+mod cause;
 mod cells;
 mod exprs;
 mod fills;
@@ -16,6 +17,7 @@ mod run;
 mod shape;
 mod walk;
 
+pub use cause::Shape;
 pub use exprs::Standing;
 pub use fills::filled;
 pub use nest::{Access, ArrayDecl, Body, Expr, Fill, Item, Nest, Sub};

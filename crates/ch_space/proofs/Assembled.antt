@@ -23,14 +23,16 @@ use Rattle.ch_nest.proofs.Corners.{lies_small}
 use Rattle.ch_space.specs.declared.level.Level.{Level}
 use Rattle.ch_space.specs.declared.piece.Piece.{Piece}
 use Rattle.ch_space.specs.Built.{zeros, unit, units, boxes_from, piece_of}
-use Rattle.ch_space.specs.Keeps.{IsWhole, places_of, AllLater, AreApart, accesses, IsBody, IsLimited, IsMoveBelow, IsSpace, most_pieces}
+use Rattle.ch_space.specs.Keeps.{IsWhole, places_of, AllLater, AreApart, accesses, IsBody, IsLimited, IsMoveBelow, IsReached, IsSpace, most_pieces}
 use Rattle.ch_space.specs.Pieces.{element_at, elements, instances, listed}
 use Rattle.ch_space.specs.Statements.{Statement, statements, executed, instances_of}
 use Rattle.ch_space.specs.Fitting.{LevelsFit}
 use Rattle.ch_space.proofs.Bodies.{all_from_each, each_in, few_arrays, Fits, body_accesses, is_body, same_dimensions}
+use Rattle.ch_space.proofs.Builds.{levels_few}
 use Rattle.ch_space.proofs.Counted.{in_instances, instances_in, instances_counted}
 use Rattle.ch_space.proofs.Findings.{element_of, start_found, found_start}
 use Rattle.ch_space.proofs.Membership.{in_flat, flat_in, in_filter, filter_in}
+use Rattle.ch_space.proofs.Reached.{body_reaches, values_affine}
 use Rattle.ch_space.proofs.NestLimits.{few_executed, length_units, limited, unwrapped}
 use Rattle.ch_space.proofs.PieceElements.{each_from_in}
 use Rattle.ch_space.proofs.Rowed.{dot_zeros, dot_front, one_times, lies_between}
@@ -220,6 +222,14 @@ module _ (nest : LoopNest) (known : IsTrue (is_nest nest)) where
       subst (λ z. All (IsAtMost (2 ^ 54)) z.identity.iters) h.is
       (lies_small (boxes_from [] h.s.levels) h.xs (small_boxes [] h.s.levels fit) (lies_between h.s.levels h.xs fit h.inside))
 
+  reached_of : (e : Element) → In e (start nest) → All (λ a. All (IsReached e.identity.iters) a.subs) (accesses e.body)
+  reached_of e i =
+      let h = start_found nest e i in
+      let fit = fit_of h.s h.there in
+      subst (λ z. All (λ a. All (IsReached z.identity.iters) a.subs) (accesses z.body)) h.is
+      (body_reaches nest.arrays (length h.s.levels) h.s.body h.xs (levels_few [] h.s.levels fit.levels (omega arith)) fit.body
+      (values_affine (boxes_from [] h.s.levels) h.xs (small_boxes [] h.s.levels fit.levels) (lies_between h.s.levels h.xs fit.levels h.inside)))
+
   fits_access : (a : Access) → In a (flat_map (λ p. accesses p.body) (pieces_of nest)) → (n : ℕ) × Fits nest.arrays n a
   fits_access a i =
       let p = in_flat (λ p. accesses p.body) (pieces_of nest) a i in
@@ -263,4 +273,6 @@ module _ (nest : LoopNest) (known : IsTrue (is_nest nest)) where
         near = subst (λ es. All (λ e. All (IsAtMost (2 ^ 54)) e.identity.iters) es) (sym listed_is)
             (all_from_each (λ e. All (IsAtMost (2 ^ 54)) e.identity.iters) (start nest) (each_from_in _ (start nest) near_of));
         wrapped = unwrapped (length nest.arrays) (pieces_of nest) bodies_kept;
+        reached = subst (λ es. All (λ e. All (λ a. All (IsReached e.identity.iters) a.subs) (accesses e.body)) es) (sym listed_is)
+            (all_from_each (λ e. All (λ a. All (IsReached e.identity.iters) a.subs) (accesses e.body)) (start nest) (each_from_in _ (start nest) reached_of));
       }

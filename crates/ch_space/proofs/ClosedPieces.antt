@@ -15,7 +15,7 @@ use Rattle.ch_timed.proofs.Closing.{ranks_less}
 use Rattle.ch_timed.proofs.Orders.{retimed, map_in, in_map}
 use Rattle.ch_space.specs.declared.piece.Piece.{Piece}
 use Rattle.ch_space.specs.Pieces.{element_at, instances, elements, listed}
-use Rattle.ch_space.specs.Keeps.{IsWhole, places_of, AllLater, AreApart, IsSpace, IsBody, IsLimited, IsMoveBelow, IsWrapped, accesses, most_pieces}
+use Rattle.ch_space.specs.Keeps.{IsWhole, places_of, AllLater, AreApart, IsSpace, IsBody, IsLimited, IsMoveBelow, IsReached, IsWrapped, accesses, most_pieces}
 use Rattle.ch_space.specs.Renumbered.{placed, all_placed, AreRanks}
 use Rattle.ch_space.proofs.Membership.{in_append, append_left, append_right}
 use Rattle.ch_space.proofs.PieceElements.{one_each, element_places, element_values, length_pos}
@@ -169,6 +169,7 @@ space_closed arrays weight commands ps counts temps cs r s = record {
   moves = all_by (λ p. IsMoveBelow (256 * commands) p.label) (λ p c h. h) ps cs s.moves;
   near = elements_placed (λ e. All (IsAtMost (2 ^ 54)) e.identity.iters) (λ p c xs h. h) ps cs s.apart s.near;
   wrapped = elements_placed (λ e. All (λ a. All (IsWrapped e.identity.iters) a.subs) (accesses e.body)) (λ p c xs h. h) ps cs s.apart s.wrapped;
+  reached = elements_placed (λ e. All (λ a. All (IsReached e.identity.iters) a.subs) (accesses e.body)) (λ p c xs h. h) ps cs s.apart s.reached;
 }
 
 -- Pieces placed from the last on.

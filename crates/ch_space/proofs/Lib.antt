@@ -10,6 +10,7 @@ pub mod PieceNumbers
 pub mod Readings
 pub mod Bodies
 pub mod NestLimits
+pub mod Reached
 pub mod Assembled
 pub mod Turning
 pub mod EndsOf

@@ -1,5 +1,5 @@
 -- What the type of a space keeps.
-use Rattle.std.specs.Prelude.{◌≡◌, ◌≢◌, ℕ, ℤ, pos, ◌+◌, ◌*◌, ◌<◌, ◌≤◌, ◌^◌, Bool, true, ◌&&◌, nat_lt, IsTrue, List, [], ◌∷◌, ◌++◌, length, map, take}
+use Rattle.std.specs.Prelude.{◌≡◌, ◌≢◌, ℕ, ℤ, pos, ◌+◌, ◌-◌, ◌*◌, ◌<◌, ◌≤◌, ◌^◌, Bool, true, ◌&&◌, nat_lt, IsTrue, List, [], ◌∷◌, ◌++◌, length, map, take}
 use Rattle.std.specs.List.{All, flat_map, sum}
 use Rattle.std.specs.Ordering.{int_cmp}
 use Rattle.std.specs.declared.cmp.Ordering.TheVariants.{Less}
@@ -123,6 +123,10 @@ pub record IsLimited (weight commands : ℕ) (p : Piece) : Type 0 where
 abbrev pub IsWrapped : List ℤ → Sub → Type 0
 IsWrapped iters s = (s.modulus ≢ 0) → IsAtMost (2 ^ 54) (value s.form iters)
 
+-- the value of a subscript's form fits a word
+abbrev pub IsReached : List ℤ → Sub → Type 0
+IsReached iters s = IsAtMost (2 ^ 63 - 1) (value s.form iters)
+
 abbrev pub IsMoveBelow : ℕ → Label → Type 0
 IsMoveBelow n (Stmt k) = Unit {0}
 IsMoveBelow n (Move k) = k < n
@@ -147,4 +151,6 @@ pub record IsSpace (arrays : ℕ) (pieces : List Piece) (counts : List ℕ) (tem
   pub moves : All (λ p. IsMoveBelow (256 * commands) p.label) pieces
   pub near : All (λ e. All (IsAtMost (2 ^ 54)) e.identity.iters) (listed pieces)
   pub wrapped : All (λ e. All (λ a. All (IsWrapped e.identity.iters) a.subs) (accesses e.body))
+      (listed pieces)
+  pub reached : All (λ e. All (λ a. All (IsReached e.identity.iters) a.subs) (accesses e.body))
       (listed pieces)

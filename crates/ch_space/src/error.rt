@@ -1,3 +1,4 @@
+use ch_nest::Shape;
 use ch_timed::{Cell, Identity};
 use std::alloc::AllocError;
 use thiserror::Error;
@@ -28,5 +29,26 @@ impl From<AllocError> for SpaceError {
 
     fn from(_error: AllocError) -> SpaceError {
         SpaceError::Memory
+    }
+}
+
+/// Why a command gives no space.
+#[derive(Debug, Drop, Error)]
+pub enum ShapeError {
+    /// The shape of the program forbids it.
+    #[error("refused by C{} {}", .0.code, .0.number)]
+    Shape(Shape),
+    #[error("out of memory")]
+    Memory,
+}
+
+impl From<AllocError> for ShapeError {
+    ghost use Rattle.std.specs.Prelude.{◌≡◌};
+    ghost use Rattle.ch_space.specs.declared.error.ShapeError.TheVariants.{Memory};
+
+    ghost from_gives = { λ _ e. e ≡ Memory };
+
+    fn from(_error: AllocError) -> ShapeError {
+        ShapeError::Memory
     }
 }

@@ -26,7 +26,7 @@ mod space;
 mod turns;
 
 pub use closing::close_up;
-pub use error::SpaceError;
+pub use error::{ShapeError, SpaceError};
 pub use extremes::ends;
 pub use judge::{judged, judgement_is_sound};
 pub use nest_space::{of_nest, space_of};
