@@ -226,8 +226,9 @@ module _ (nest : LoopNest) (known : IsTrue (is_nest nest)) where
   reached_of e i =
       let h = start_found nest e i in
       let fit = fit_of h.s h.there in
+      let few = levels_few [] h.s.levels fit.levels (omega arith) in
       subst (λ z. All (λ a. All (IsReached z.identity.iters) a.subs) (accesses z.body)) h.is
-      (body_reaches nest.arrays (length h.s.levels) h.s.body h.xs (levels_few [] h.s.levels fit.levels (omega arith)) fit.body
+      (body_reaches nest.arrays (length h.s.levels) h.s.body h.xs (omega arith) fit.body
       (values_affine (boxes_from [] h.s.levels) h.xs (small_boxes [] h.s.levels fit.levels) (lies_between h.s.levels h.xs fit.levels h.inside)))
 
   fits_access : (a : Access) → In a (flat_map (λ p. accesses p.body) (pieces_of nest)) → (n : ℕ) × Fits nest.arrays n a
