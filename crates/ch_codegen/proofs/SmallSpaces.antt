@@ -7,7 +7,7 @@ use Rattle.ch_nest.specs.declared.nest.Access.{Access}
 use Rattle.ch_nest.specs.declared.nest.Sub.{Sub}
 use Rattle.ch_nest.specs.declared.nest.Expr.TheFolds.{fold-roll-Expr}
 use Rattle.ch_nest.specs.declared.nest.Expr.TheVariants.{Number, rolls-Number}
-use Rattle.ch_space.specs.Keeps.{IsWhole, AreApart, IsAccess, IsBody, IsBounded, IsLimited, IsSpace, IsMoveBelow, accesses, farthest, iters_below, iters_below_step}
+use Rattle.ch_space.specs.Keeps.{IsWhole, AreApart, IsAccess, IsBody, IsBounded, IsLimited, IsNarrow, IsReached, IsSpace, IsMoveBelow, accesses, farthest, iters_below, iters_below_step}
 use Rattle.ch_space.specs.declared.piece.Piece.{Piece}
 use Rattle.ch_space.specs.Pieces.{element_at, instances, listed}
 use Rattle.ch_space.proofs.NestLimits.{unwrapped}
@@ -85,6 +85,20 @@ near =
     all_more IsNear first_turn (last_turn ∷ second ∷ []) (near_at (piece 0 (pos 0)) 0 (omega arith) refl)
     (all_more IsNear last_turn (second ∷ []) (near_at (piece 0 (pos 0)) 1 (omega arith) refl) (all_more IsNear second [] (near_at (piece 1 (pos 1)) 1 (omega arith) refl) (all_none IsNear)))
 
+abbrev Reaches : Element → Type 0
+Reaches e = All (λ a. All (IsReached e.identity.iters) a.subs) (accesses e.body)
+
+reaches_at : (number n : ℕ) (low : ℤ) → n ≤ 1 → Reaches (element_at (piece number low) (pos n ∷ []))
+reaches_at number n low l =
+    let iters : List ℤ = (element_at (piece number low) (pos n ∷ [])).identity.iters in
+    subst (All (λ a. All (IsReached iters) a.subs)) (sym one_access)
+    (all_more (λ a. All (IsReached iters) a.subs) written [] (all_more (IsReached iters) only_subscript [] (omega (arith, ints)) (all_none _)) (all_none _))
+
+reached : All Reaches (listed both)
+reached =
+    all_more Reaches first_turn (last_turn ∷ second ∷ []) (reaches_at 0 0 (pos 0) (omega arith))
+    (all_more Reaches last_turn (second ∷ []) (reaches_at 0 1 (pos 0) (omega arith)) (all_more Reaches second [] (reaches_at 1 1 (pos 1) (omega arith)) (all_none Reaches)))
+
 abbrev IsFine : Piece → Type 0
 IsFine p = IsBody 1 0 (length p.origin) p.body
 
@@ -100,6 +114,7 @@ limited number low h = record {
   iterators = omega arith;
   variables = omega arith;
   boxes = all_more (IsBounded (farthest 1 0)) _ [] (record { low = h; high = omega (arith, ints) }) (all_none _);
+  origin = all_more (IsNarrow 1 0) first_level [] (record { coefs = all_more (IsAtMost 1) (pos 1) [] (omega (arith, ints)) (all_none _); constant = omega (arith, ints) }) (all_none _);
 }
 
 small_space : IsSpace 1 both (2 ∷ 1 ∷ []) [] 1 0
@@ -123,6 +138,7 @@ small_space = record {
   moves = all_more IsStatement (piece 0 (pos 0)) (piece 1 (pos 1) ∷ []) tt (all_more IsStatement (piece 1 (pos 1)) [] tt (all_none _));
   near = near;
   wrapped = unwrapped 1 both bodies;
+  reached = reached;
 }
 
 pub is_space : (pieces : List Piece) (counts : List ℕ) (temps : List (List ℕ)) → pieces ≡ both → counts ≡ 2 ∷ 1 ∷ [] → temps ≡ [] → IsSpace 1 pieces counts temps 1 0
