@@ -1,0 +1,4 @@
+pub mod Substitutes
+pub mod Bounded
+pub mod HiddenTies
+pub mod Fronts
