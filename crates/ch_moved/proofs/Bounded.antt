@@ -34,7 +34,7 @@ least_more cs rs k d sum more next total l same m n h =
 dot_opposite : (cs xs : List ℤ) → dot (map neg_ℤ cs) xs ≡ neg_ℤ (dot cs xs)
 dot_opposite [] xs = refl
 dot_opposite (c ∷ cs) [] = refl
-dot_opposite (c ∷ cs) (x ∷ xs) = omega (arith, ints, dot_opposite cs xs, neg_times c x)
+dot_opposite (c ∷ cs) (x ∷ xs) = let e = neg_times c x in omega (arith, ints, dot_opposite cs xs)
 
 pub value_opposite : (f : Form) (xs : List ℤ) → value (opposite f) xs ≡ neg_ℤ (value f xs)
 value_opposite f xs = omega (arith, ints, dot_opposite f.coefs xs)
@@ -81,7 +81,7 @@ bound_pushed rows new row f m e n ys =
 pub bound_sure : (boxes : List Range) (rows : List Form) (row f : Form) (m : ℤ) → row ≡ above f m → length f.coefs ≡ length boxes → pos 0 ≤ℤ least_in boxes row
     → (ys : List ℤ) → IsTrue (lies_in boxes ys) → all_hold rows ys ≡ (all_hold rows ys && int_le m (value f ys))
 bound_sure boxes rows row f m e l h ys i =
-    let low : pos 0 ≤ℤ (f.constant -ℤ m) +ℤ least_sum f.coefs boxes = subst (λ g. pos 0 ≤ℤ least_in boxes g) e h in
+    let low : pos 0 ≤ℤ ((f.constant -ℤ m) +ℤ least_sum f.coefs boxes) = subst (λ g. pos 0 ≤ℤ least_in boxes g) e h in
     let least = least_le f.coefs boxes ys l i in
     let sure : m ≤ℤ value f ys = omega (arith, ints) in
     let t : int_le m (value f ys) ≡ true = grind (arith, ints) in
@@ -140,4 +140,5 @@ pub conditions_more : (ranges : List Range) (gs : List Form) (ys : List ℤ) (k 
     → new ≡ (old && (int_le (get_or ranges k r).low (value (get_or gs k g) ys) && int_le (value (get_or gs k g) ys) (get_or ranges k r).high))
     → new ≡ (extra && lies_in (take (k + 1) ranges) (image (take (k + 1) gs) ys))
 conditions_more ranges gs ys k r g extra old new l e a b =
-    b ∙ ap (λ t. t && _) a ∙ and_assoc extra (lies_in (take k ranges) (image (take k gs) ys)) _ ∙ ap (λ t. extra && t) (sym (lies_more ranges gs ys k r g l e))
+    let here : Bool = int_le (get_or ranges k r).low (value (get_or gs k g) ys) && int_le (value (get_or gs k g) ys) (get_or ranges k r).high in
+    b ∙ ap (λ t. t && here) a ∙ and_assoc extra (lies_in (take k ranges) (image (take k gs) ys)) here ∙ ap (λ t. extra && t) (sym (lies_more ranges gs ys k r g l e))

@@ -89,7 +89,7 @@ module _ (n : ℕ) (s : Rows) (few : n ≤ length s.boxes) where
 
 -- Over values of the new variables in the boxes, the new rows hold with some hidden values exactly where the extra rows hold and
 -- the values of the forms are a front of the old system.
-record Agrees (old : Rows) (gs : List Form) (boxes : List Range) (extra : List Form) (s : Rows) : Type 0 where
+pub record Agrees (old : Rows) (gs : List Form) (boxes : List Range) (extra : List Form) (s : Rows) : Type 0 where
   pub old_few : length gs ≤ length old.boxes
   pub new_few : length boxes ≤ length s.boxes
   pub boxes_are : take (length boxes) s.boxes ≡ boxes
@@ -155,12 +155,12 @@ module _ (rows conditions : List Form) (boxes hidden : List Range) (s : Rows) (j
     joined_both h g = ap (λ z. all_hold z.rows (ys ++ zs)) j ∙ rows_joined rows (map (widened (length hidden)) conditions) (ys ++ zs) h (last_hold ∙ g)
 
 -- what is known of the old system and the forms
-pub record IsGiven (old : Rows) (gs : List Form) (boxes : List Range) (extra conditions : List Form) : Type 0 where
+pub record IsGiven (old : Rows) (gs : List Form) (boxes : List Range) (extra added : List Form) : Type 0 where
   pub long : AllLong (length boxes) gs
   pub variables : length old.boxes ≡ old.vars
   pub few : length gs ≤ old.vars
   pub rows : AllLong old.vars old.rows
-  pub conditions : AreConditions boxes gs (take (length gs) old.boxes) extra conditions
+  pub conditions : AreConditions boxes gs (take (length gs) old.boxes) extra added
 
 wide_rows : (d n : ℕ) (fs : List Form) → d ≤ n → AllLong n fs → All (λ f. d ≤ length f.coefs) fs
 wide_rows d n fs l a = All-weaker (λ f. length f.coefs ≡ n) (λ f. d ≤ length f.coefs) (λ f e. subst (λ m. d ≤ m) (sym e) l) fs a
@@ -262,7 +262,7 @@ module _ (old : Rows) (gs : List Form) (boxes : List Range) (extra conditions : 
         least = omega arith;
         most = omega arith;
         plain = λ small. omega arith;
-        fronts = fronts_agree old gs boxes extra s (plain_agrees j);
+        is_front = fronts_agree old gs boxes extra s (plain_agrees j);
       }
 
   pub tied_changed : (rows : List Form) → StandOver (ties 0 old.vars gs) (length boxes) old.vars gs old.rows rows → Joins rows conditions boxes old.boxes s
@@ -275,5 +275,5 @@ module _ (old : Rows) (gs : List Form) (boxes : List Range) (extra conditions : 
         least = omega arith;
         most = omega arith;
         plain = λ small. absurd (large small);
-        fronts = fronts_agree old gs boxes extra s (tied_agrees rows t j);
+        is_front = fronts_agree old gs boxes extra s (tied_agrees rows t j);
       }

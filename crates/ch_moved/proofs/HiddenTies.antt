@@ -58,7 +58,7 @@ value_tied f k after c x ys us hs e l =
     omega (arith, ints, first, second, dot_zeros k us, dot_zeros after hs)
 
 minus_one : (x : ℤ) → negsuc 0 *ℤ x ≡ neg_ℤ x
-minus_one x = neg_times (pos 1) x ∙ ap neg_ℤ (one_times x)
+minus_one x = let e = neg_times (pos 1) x in omega (arith, ints, one_times x)
 
 length_opposite : (f : Form) → length (opposite f).coefs ≡ length f.coefs
 length_opposite f = Rattle.std.proofs.lemmas.List.length-map f.coefs neg_ℤ

@@ -1,4 +1,5 @@
 pub mod Substitutes
+pub mod Fitted
 pub mod Bounded
 pub mod HiddenTies
 pub mod Fronts

@@ -25,7 +25,7 @@ pub record AreConditions (boxes : List Range) (gs : List Form) (ranges : List Ra
 -- Over values of the new variables and those of the old ones that they give, the new row has the old one's value.
 pub record IsOver (n : ℕ) (gs : List Form) (row new : Form) : Type 0 where
   pub long : length new.coefs ≡ n + length row.coefs
-  pub value : (ys hs : List ℤ) → length ys ≡ n
+  pub same : (ys hs : List ℤ) → length ys ≡ n
       → value new (ys ++ (image gs ys ++ hs)) ≡ value row (image gs ys ++ hs)
 
 -- There the new rows hold where the old ones do.
@@ -41,11 +41,11 @@ pub record StandOver (before : List Form) (n old : ℕ) (gs rows new : List Form
   pub are : AreOver n old gs rows over
 
 -- The system over new variables, from which forms give the first ones of the old system.
-pub record IsChanged (old : Rows) (gs : List Form) (boxes : List Range) (extra : List Form) (s : Rows) : Type 0 where
-  pub boxes : take (length boxes) s.boxes ≡ boxes
-  pub least : length boxes ≤ s.vars
-  pub most : s.vars ≤ length boxes + old.vars
-  pub plain : All (λ f. IsSmall (substituted (length boxes) gs f)) old.rows
-      → s.vars + length gs ≡ length boxes + old.vars
-  pub fronts : (ys : List ℤ) → In ys (fronts (length boxes) s)
-      ↔ (IsTrue (lies_in boxes ys) × IsTrue (all_hold extra ys) × In (image gs ys) (fronts (length gs) old))
+pub record IsChanged (old : Rows) (gs : List Form) (ranges : List Range) (extra : List Form) (s : Rows) : Type 0 where
+  pub boxes : take (length ranges) s.boxes ≡ ranges
+  pub least : length ranges ≤ s.vars
+  pub most : s.vars ≤ length ranges + old.vars
+  pub plain : All (λ f. IsSmall (substituted (length ranges) gs f)) old.rows
+      → s.vars + length gs ≡ length ranges + old.vars
+  pub is_front : (ys : List ℤ) → In ys (fronts (length ranges) s)
+      ↔ (IsTrue (lies_in ranges ys) × IsTrue (all_hold extra ys) × In (image gs ys) (fronts (length gs) old))

@@ -8,7 +8,7 @@ use Rattle.ch_space.specs.Built.{zeros}
 abbrev pub plus_times : ℤ → List ℤ → List ℤ → List ℤ
 plus_times c [] sums = sums
 plus_times c (g ∷ gs) [] = []
-plus_times c (g ∷ gs) (s ∷ sums) = s +ℤ c *ℤ g ∷ plus_times c gs sums
+plus_times c (g ∷ gs) (s ∷ sums) = (s +ℤ c *ℤ g) ∷ plus_times c gs sums
 
 -- the form, and each coefficient times its form
 abbrev pub combined : List ℤ → List Form → Form → Form

@@ -31,7 +31,8 @@ fn coefficient(factors: &[i64], forms: &[Aff], place: usize) -> i128
 {
     let mut sum = 0;
     for k in 0..forms.len() {
-        sum = plus(sum, product(factors[k], forms[k].coefs.as_slice()[place]));
+        let form = &forms[k];
+        sum = plus(sum, product(factors[k], form.coefs.as_slice()[place]));
     }
     sum
 }
@@ -46,7 +47,8 @@ fn constant(start: i64, factors: &[i64], forms: &[Aff]) -> i128
 {
     let mut sum = i128::from(start);
     for k in 0..forms.len() {
-        sum = plus(sum, product(factors[k], forms[k].constant));
+        let form = &forms[k];
+        sum = plus(sum, product(factors[k], form.constant));
     }
     sum
 }
