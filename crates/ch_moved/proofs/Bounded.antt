@@ -5,7 +5,7 @@ use Rattle.std.specs.List.{All, list_all}
 use Rattle.std.proofs.Math.IntN.{+ℤ_assoc}
 use Rattle.std.proofs.lemmas.Bool.{both_ways}
 use Rattle.std.proofs.lemmas.Int.{ints}
-use Rattle.std.proofs.lemmas.List.{drop_more, length-map}
+use Rattle.std.proofs.lemmas.List.{drop_more, length-map, take_all}
 use Rattle.std.proofs.lemmas.List.Elements.{All-push, All-nil, All-cons, All-map, All-weaker}
 use Rattle.std.proofs.lemmas.List.Folds.{list_all-append}
 use Rattle.ch_affine.specs.Form.{Form}
@@ -42,12 +42,16 @@ value_opposite f xs = omega (arith, ints, dot_opposite f.coefs xs)
 neg_small : (x : ℤ) → IsAtMost (2 ^ 60) x → IsAtMost (2 ^ 60) (neg_ℤ x)
 neg_small x h = omega (arith, ints)
 
-pub opposite_small : (f : Form) → IsSmall f → IsSmall (opposite f)
-opposite_small f s = record {
-  few = subst (λ n. n ≤ 4096) (sym (length-map f.coefs neg_ℤ)) s.few;
-  coefs = All-map (IsAtMost (2 ^ 60)) neg_ℤ f.coefs (All-weaker (IsAtMost (2 ^ 60)) (λ x. IsAtMost (2 ^ 60) (neg_ℤ x)) neg_small f.coefs s.coefs);
-  constant = neg_small f.constant s.constant;
-}
+pub opposite_small : (f now : Form) (coefs : List ℤ) (k : ℕ) (constant : ℤ) → IsSmall f → f ≡ now → length f.coefs ≤ k → coefs ≡ map neg_ℤ (take k now.coefs) → constant ≡ neg_ℤ f.constant
+    → IsSmall (form coefs constant)
+opposite_small f now coefs k constant s n l e c =
+    let P : ℤ → Type 0 = IsAtMost (2 ^ 60) in
+    let same : coefs ≡ map neg_ℤ f.coefs = e ∙ ap (λ g. map neg_ℤ (take k g.coefs)) (sym n) ∙ ap (map neg_ℤ) (take_all k f.coefs l) in
+    record {
+      few = subst (λ n. n ≤ 4096) (sym (ap length same ∙ length-map f.coefs neg_ℤ)) s.few;
+      coefs = subst (All P) (sym same) (All-map P neg_ℤ f.coefs (All-weaker P (λ x. P (neg_ℤ x)) neg_small f.coefs s.coefs));
+      constant = subst P (sym c) (neg_small f.constant s.constant);
+    }
 
 -- one bound
 

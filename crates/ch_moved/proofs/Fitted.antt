@@ -1,9 +1,10 @@
 -- The steps of the computation of a row with forms put in, and where its numbers are too large.
-use Rattle.std.proofs.Common.{◌≡◌, refl, sym, ap, ap₂, ◌∙◌, subst, ℕ, zero, suc, ◌+◌, ◌-◌, ◌<◌, ◌≤◌, ◌^◌, ℤ, pos, ◌+ℤ◌, ◌*ℤ◌, List, [], ◌∷◌, ◌++◌, map, length, take, drop, get_or, arith, length-append, length-drop, take_at, drop_at}
+use Rattle.std.proofs.Common.{◌≡◌, refl, sym, ap, ap₂, ◌∙◌, subst, ℕ, zero, suc, ◌+◌, ◌-◌, ◌<◌, ◌≤◌, ◌^◌, ℤ, pos, ◌+ℤ◌, ◌*ℤ◌, List, [], ◌∷◌, ◌++◌, map, length, take, drop, get_or, arith, length-append, length-drop, take_at, drop_at, append_assoc, ◌↔◌, Option, Some, None}
 use Rattle.std.specs.List.{All}
+use Rattle.std.specs.Option.{MatchOption, IfSome, IsSome}
 use Rattle.std.proofs.Math.IntN.{+ℤ_assoc, +ℤ_idr}
 use Rattle.std.proofs.lemmas.Int.{ints}
-use Rattle.std.proofs.lemmas.List.{drop_more, drop_all, take_more, take_all}
+use Rattle.std.proofs.lemmas.List.{drop_more, drop_all, take_more, take_rest}
 use Rattle.std.proofs.lemmas.List.Elements.{All-nil, All-cons, All-append, All-take, All-drop, All-same}
 use Rattle.ch_affine.specs.Form.{Form}
 use Rattle.ch_affine.specs.Affine.{IsAtMost, IsSmall, dot, form}
@@ -12,6 +13,10 @@ use Rattle.ch_moved.specs.Spread.{column, constants, spread}
 use Rattle.ch_moved.specs.Substituted.{substituted}
 use Rattle.ch_moved.proofs.Substitutes.{front, length_zeros, length_front, coefficient_is, constant_is}
 use Rattle.ch_space.specs.Built.{zeros}
+
+-- what is known of the value that an option has
+pub some_value : {X : Type 0} (o : Option X) (P : Type 0) (Q : X → Type 0) (x : X) → MatchOption o P Q → o ≡ Some x → Q x
+some_value o P Q x m e = subst (λ r. MatchOption r P Q) e m
 
 dot_nil : (cs : List ℤ) → dot cs [] ≡ pos 0
 dot_nil [] = refl
@@ -78,41 +83,75 @@ spread_small n gs between f a l room s =
       constant = s.constant;
     }
 
--- the small forms of the rows
+-- the rows with more variables are small
 
-pub widened_small : (f : Form) (more : ℕ) (coefs : List ℤ) → coefs ≡ f.coefs ++ zeros more → length f.coefs + more ≤ 4096 → IsSmall f → IsSmall (form coefs f.constant)
-widened_small f more coefs e room s =
-    let m = ap length e ∙ length-append f.coefs (zeros more) in
+joined_small : (P : ℤ → Type 0) (xs ys zs : List ℤ) → zs ≡ xs ++ ys → All P xs → All P ys → All P zs
+joined_small P xs ys zs e a b = All-same P zs (xs ++ ys) e (All-append P xs ys a b)
+
+length_joined : (xs ys zs : List ℤ) → zs ≡ xs ++ ys → length zs ≡ length xs + length ys
+length_joined xs ys zs e = ap length e ∙ length-append xs ys
+
+pub widened_small : (f now : Form) (slice first coefs : List ℤ) (more : ℕ) (constant : ℤ) → IsSmall f → f ≡ now → slice ≡ f.coefs → first ≡ slice → coefs ≡ first ++ zeros more
+    → length now.coefs + more ≤ 4096 → constant ≡ f.constant → IsSmall (form coefs constant)
+widened_small f now slice first coefs more constant s n l a e room k =
+    let same : first ≡ f.coefs = a ∙ l in
+    let m = length_joined first (zeros more) coefs e in
+    let x = ap length same in
+    let y = ap (λ g. length g.coefs) n in
     let z = length_zeros more in
     record {
       few = omega arith;
-      coefs = All-same (IsAtMost (2 ^ 60)) coefs (f.coefs ++ zeros more) e (All-append (IsAtMost (2 ^ 60)) f.coefs (zeros more) s.coefs (zeros_small more));
-      constant = s.constant;
+      coefs = joined_small (IsAtMost (2 ^ 60)) first (zeros more) coefs e (All-same (IsAtMost (2 ^ 60)) first f.coefs same s.coefs) (zeros_small more);
+      constant = subst (IsAtMost (2 ^ 60)) (sym k) s.constant;
     }
 
-pub kept_small : (f : Form) (before : ℕ) (coefs : List ℤ) → coefs ≡ zeros before ++ f.coefs → before + length f.coefs ≤ 4096 → IsSmall f → IsSmall (form coefs f.constant)
-kept_small f before coefs e room s =
-    let m = ap length e ∙ length-append (zeros before) f.coefs in
-    let z = length_zeros before in
+pub kept_small : (f now : Form) (none first slice coefs : List ℤ) (before : ℕ) (constant : ℤ) → IsSmall f → f ≡ now → none ≡ [] → first ≡ none ++ zeros before → slice ≡ f.coefs → coefs ≡ first ++ slice
+    → before + length now.coefs ≤ 4096 → constant ≡ f.constant → IsSmall (form coefs constant)
+kept_small f now none first slice coefs before constant s n o a l e room k =
+    let zero : first ≡ zeros before = a ∙ ap (λ t. t ++ zeros before) o in
+    let m = length_joined first slice coefs e in
+    let x = ap length zero ∙ length_zeros before in
+    let y = ap (λ g. length g.coefs) n in
+    let z = ap length l in
     record {
       few = omega arith;
-      coefs = All-same (IsAtMost (2 ^ 60)) coefs (zeros before ++ f.coefs) e (All-append (IsAtMost (2 ^ 60)) (zeros before) f.coefs (zeros_small before) s.coefs);
-      constant = s.constant;
+      coefs = joined_small (IsAtMost (2 ^ 60)) first slice coefs e (All-same (IsAtMost (2 ^ 60)) first (zeros before) zero (zeros_small before)) (All-same (IsAtMost (2 ^ 60)) slice f.coefs l s.coefs);
+      constant = subst (IsAtMost (2 ^ 60)) (sym k) s.constant;
     }
 
-pub tied_small : (f : Form) (before after : ℕ) (number : ℤ) (coefs : List ℤ) → coefs ≡ f.coefs ++ (zeros before ++ number ∷ zeros after) → IsAtMost 1 number
-    → length f.coefs + (before + 1 + after) ≤ 4096 → IsSmall f → IsSmall (form coefs f.constant)
-tied_small f before after number coefs e one room s =
+pub tied_small : (f now : Form) (slice first mid one coefs : List ℤ) (before after : ℕ) (number constant : ℤ) → IsSmall f → f ≡ now → slice ≡ f.coefs → first ≡ slice → mid ≡ first ++ zeros before
+    → one ≡ mid ++ number ∷ [] → coefs ≡ one ++ zeros after → IsAtMost 1 number → length now.coefs + (before + 1 + after) ≤ 4096 → constant ≡ f.constant → IsSmall (form coefs constant)
+tied_small f now slice first mid one coefs before after number constant s n l a b c d small room k =
     let P : ℤ → Type 0 = IsAtMost (2 ^ 60) in
-    let more : List ℤ = zeros before ++ number ∷ zeros after in
-    let m = ap length e ∙ length-append f.coefs more in
-    let n = length-append (zeros before) (number ∷ zeros after) in
-    let z = length_zeros before in
-    let y = length_zeros after in
-    let o : IsAtMost (2 ^ 60) number = omega arith in
+    let same : first ≡ f.coefs = a ∙ l in
+    let large : IsAtMost (2 ^ 60) number = omega arith in
+    let all_mid : All P mid = joined_small P first (zeros before) mid b (All-same P first f.coefs same s.coefs) (zeros_small before) in
+    let all_one : All P one = joined_small P mid (number ∷ []) one c all_mid (All-cons P number [] large (All-nil P)) in
+    let m1 = length_joined first (zeros before) mid b in
+    let m2 = length_joined mid (number ∷ []) one c in
+    let m3 = length_joined one (zeros after) coefs d in
+    let x = ap length same in
+    let y = ap (λ g. length g.coefs) n in
+    let z1 = length_zeros before in
+    let z2 = length_zeros after in
     record {
       few = omega arith;
-      coefs = All-same P coefs (f.coefs ++ more) e
-          (All-append P f.coefs more s.coefs (All-append P (zeros before) (number ∷ zeros after) (zeros_small before) (All-cons P number (zeros after) o (zeros_small after))));
-      constant = s.constant;
+      coefs = joined_small P one (zeros after) coefs d all_one (zeros_small after);
+      constant = subst P (sym k) s.constant;
     }
+
+-- the form that the test of a form's limits answers
+pub spread_made : (n : ℕ) (gs : List Form) (between : ℕ) (f : Form) (coefs : List ℤ) (constant : ℤ) (r : Option Form) → AllLong n gs → length gs ≤ length f.coefs → n + (between + length f.coefs) ≤ 4096
+    → coefs ≡ (front n gs f).coefs ++ (zeros between ++ drop (length gs) f.coefs) → constant ≡ (front n gs f).constant
+    → (IsSome r ↔ IsSmall (form coefs constant)) → IfSome r (λ a. a ≡ form coefs constant)
+    → MatchOption r (IsSmall (substituted n gs f) → ⊥) (λ g. g ≡ spread n gs between f)
+spread_made n gs between f coefs constant (Some g) a l room e k fits value = value ∙ (λ i. form (e i) (k i))
+spread_made n gs between f coefs constant None a l room e k fits value =
+    let same : form coefs constant ≡ spread n gs between f = λ i. form (e i) (k i) in
+    λ small. let t = fits.1 (subst IsSmall (sym same) (spread_small n gs between f a l room small)) in absurd cc
+
+pub spread_coefs : (n : ℕ) (gs : List Form) (between : ℕ) (f : Form) (first mid slice last : List ℤ) → first ≡ (front n gs f).coefs → mid ≡ first ++ zeros between → slice ≡ f.coefs
+    → last ≡ mid ++ take (length slice - length gs) (drop (length gs) slice) → last ≡ (front n gs f).coefs ++ (zeros between ++ drop (length gs) f.coefs)
+spread_coefs n gs between f first mid slice last a b e h =
+    h ∙ ap₂ (λ u v. u ++ v) (b ∙ ap (λ t. t ++ zeros between) a) (take_rest slice (length gs) ∙ ap (drop (length gs)) e)
+    ∙ append_assoc (front n gs f).coefs (zeros between) (drop (length gs) f.coefs)

@@ -166,7 +166,7 @@ wide_rows : (d n : ℕ) (fs : List Form) → d ≤ n → AllLong n fs → All (�
 wide_rows d n fs l a = All-weaker (λ f. length f.coefs ≡ n) (λ f. d ≤ length f.coefs) (λ f e. subst (λ m. d ≤ m) (sym e) l) fs a
 
 module _ (old : Rows) (gs : List Form) (boxes : List Range) (extra conditions : List Form) (s : Rows) (g : IsGiven old gs boxes extra conditions) where
-  ranges : List Range
+  abbrev ranges : List Range
   ranges = take (length gs) old.boxes
 
   few_given : length gs ≤ length old.boxes
