@@ -1,5 +1,5 @@
 -- The rows which say that forms have values in ranges.
-use Rattle.std.proofs.Common.{◌≡◌, refl, sym, ap, ap₂, ◌∙◌, subst, ℕ, zero, suc, ◌+◌, ◌<◌, ◌≤◌, ◌^◌, unsigned_abs, ℤ, pos, neg_ℤ, ◌+ℤ◌, ◌-ℤ◌, ◌*ℤ◌, ◌≤ℤ◌, int_le, Bool, true, false, ◌&&◌, List, [], ◌∷◌, ◌++◌, map, length, take, drop, get_or, arith, length-append}
+use Rattle.std.proofs.Common.{◌≡◌, refl, sym, ap, ap₂, ◌∙◌, subst, ℕ, zero, suc, ◌+◌, ◌<◌, ◌≤◌, ◌^◌, unsigned_abs, ℤ, pos, neg_ℤ, ◌+ℤ◌, ◌-ℤ◌, ◌*ℤ◌, ◌≤ℤ◌, int_le, int_lt, Bool, true, false, ◌&&◌, Result, Ok, Err, OnOk, List, [], ◌∷◌, ◌++◌, map, length, take, drop, get_or, arith, length-append}
 use Rattle.std.specs.Bool.{IsTrue}
 use Rattle.std.specs.List.{All, list_all}
 use Rattle.std.proofs.Math.IntN.{+ℤ_assoc}
@@ -114,7 +114,7 @@ and_assoc : (a b c : Bool) → ((a && b) && c) ≡ (a && (b && c))
 and_assoc true b c = refl
 and_assoc false b c = refl
 
-pub bounds_hold : (f g : Form) (low high minus : ℤ) (ys : List ℤ) (old mid new : Bool) → g ≡ opposite f → minus ≡ neg_ℤ high
+bounds_hold : (f g : Form) (low high minus : ℤ) (ys : List ℤ) (old mid new : Bool) → g ≡ opposite f → minus ≡ neg_ℤ high
     → mid ≡ (old && int_le low (value f ys)) → new ≡ (mid && int_le minus (value g ys))
     → new ≡ (old && (int_le low (value f ys) && int_le (value f ys) high))
 bounds_hold f g low high minus ys old mid new e m a b =
@@ -146,3 +146,13 @@ pub conditions_more : (ranges : List Range) (gs : List Form) (ys : List ℤ) (k 
 conditions_more ranges gs ys k r g extra old new l e a b =
     let here : Bool = int_le (get_or ranges k r).low (value (get_or gs k g) ys) && int_le (value (get_or gs k g) ys) (get_or ranges k r).high in
     b ∙ ap (λ t. t && here) a ∙ and_assoc extra (lies_in (take k ranges) (image (take k gs) ys)) here ∙ ap (λ t. extra && t) (sym (lies_more ranges gs ys k r g l e))
+
+pub bounds_done : {X E : Type 0} (r : Result X E) (boxes : List Range) (f g : Form) (low high minus : ℤ) (old mid new : List ℤ → Bool) → g ≡ opposite f → minus ≡ neg_ℤ high
+    → ((ys : List ℤ) → IsTrue (lies_in boxes ys) → mid ys ≡ (old ys && int_le low (value f ys)))
+    → OnOk r ((ys : List ℤ) → IsTrue (lies_in boxes ys) → new ys ≡ (mid ys && int_le minus (value g ys)))
+    → OnOk r ((ys : List ℤ) → IsTrue (lies_in boxes ys) → new ys ≡ (old ys && (int_le low (value f ys) && int_le (value f ys) high)))
+bounds_done (Ok x) boxes f g low high minus old mid new e m a b = λ ys i. bounds_hold f g low high minus ys (old ys) (mid ys) (new ys) e m (a ys i) (b ys i)
+bounds_done (Err o) boxes f g low high minus old mid new e m a b = tt
+
+pub not_below : (v w : ℤ) → v ≡ w → int_lt v (pos 0) ≡ false → pos 0 ≤ℤ w
+not_below v w e f = let n : pos 0 ≤ℤ v = grind (arith, ints) in omega (arith, ints)
