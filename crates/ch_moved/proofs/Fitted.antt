@@ -18,6 +18,10 @@ use Rattle.ch_space.specs.Built.{zeros}
 pub some_value : {X : Type 0} (o : Option X) (P : Type 0) (Q : X → Type 0) (x : X) → MatchOption o P Q → o ≡ Some x → Q x
 some_value o P Q x m e = subst (λ r. MatchOption r P Q) e m
 
+-- and where it has none
+pub none_value : {X : Type 0} (o : Option X) (P : Type 0) (Q : X → Type 0) → MatchOption o P Q → o ≡ None → P
+none_value o P Q m e = subst (λ r. MatchOption r P Q) e m
+
 dot_nil : (cs : List ℤ) → dot cs [] ≡ pos 0
 dot_nil [] = refl
 dot_nil (c ∷ cs) = refl
@@ -71,7 +75,7 @@ length_spread n gs between f a l =
     omega arith
 
 -- variables on which it does not depend leave a form small
-pub spread_small : (n : ℕ) (gs : List Form) (between : ℕ) (f : Form) → AllLong n gs → length gs ≤ length f.coefs → n + (between + length f.coefs) ≤ 4096
+pub spread_small : (n : ℕ) (gs : List Form) (between : ℕ) (f : Form) → AllLong n gs → length gs ≤ length f.coefs → n + (between + length f.coefs) ≤ 4096 + length gs
     → IsSmall (substituted n gs f) → IsSmall (spread n gs between f)
 spread_small n gs between f a l room s =
     let m = length_spread n gs between f a l in
@@ -141,7 +145,7 @@ tied_small f now slice first mid one coefs before after number constant s n l a 
     }
 
 -- the form that the test of a form's limits answers
-pub spread_made : (n : ℕ) (gs : List Form) (between : ℕ) (f : Form) (coefs : List ℤ) (constant : ℤ) (r : Option Form) → AllLong n gs → length gs ≤ length f.coefs → n + (between + length f.coefs) ≤ 4096
+pub spread_made : (n : ℕ) (gs : List Form) (between : ℕ) (f : Form) (coefs : List ℤ) (constant : ℤ) (r : Option Form) → AllLong n gs → length gs ≤ length f.coefs → n + (between + length f.coefs) ≤ 4096 + length gs
     → coefs ≡ (front n gs f).coefs ++ (zeros between ++ drop (length gs) f.coefs) → constant ≡ (front n gs f).constant
     → (IsSome r ↔ IsSmall (form coefs constant)) → IfSome r (λ a. a ≡ form coefs constant)
     → MatchOption r (IsSmall (substituted n gs f) → ⊥) (λ g. g ≡ spread n gs between f)

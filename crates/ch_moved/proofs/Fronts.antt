@@ -128,7 +128,7 @@ module _ (old : Rows) (gs : List Form) (boxes : List Range) (extra conditions : 
   meet ys i h b = let t : lies_in (take (length gs) old.boxes) (image gs ys) ≡ true = inside_lies (take (length gs) old.boxes) (image gs ys) b in c.hold ys i ∙ rw (h, t) refl
 
 -- a system whose rows are followed by the conditions, and whose boxes by those of the hidden variables
-abbrev Joins : List Form → List Form → List Range → List Range → Rows → Type 0
+abbrev pub Joins : List Form → List Form → List Range → List Range → Rows → Type 0
 Joins rows conditions boxes hidden s =
     s ≡ system (length boxes + length hidden) (rows ++ map (widened (length hidden)) conditions) (boxes ++ hidden)
 

@@ -60,7 +60,7 @@ value_tied f k after c x ys us hs e l =
 minus_one : (x : ℤ) → negsuc 0 *ℤ x ≡ neg_ℤ x
 minus_one x = let e = neg_times (pos 1) x in omega (arith, ints, one_times x)
 
-length_opposite : (f : Form) → length (opposite f).coefs ≡ length f.coefs
+pub length_opposite : (f : Form) → length (opposite f).coefs ≡ length f.coefs
 length_opposite f = Rattle.std.proofs.lemmas.List.length-map f.coefs neg_ℤ
 
 module _ (g : Form) (k after : ℕ) (x : ℤ) (ys us hs : List ℤ) (e : length g.coefs ≡ length ys) (l : length us ≡ k) where

@@ -3,3 +3,5 @@ pub mod Fitted
 pub mod Bounded
 pub mod HiddenTies
 pub mod Fronts
+pub mod Over
+pub mod Joining

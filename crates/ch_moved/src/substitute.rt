@@ -117,7 +117,7 @@ pub(crate) fn spread(
     requires few { length forms.now ≤ 10 }
     requires long { AllLong variables forms.now }
     requires old { length forms.now ≤ length row.now.coefs }
-    requires room { variables + (between + length row.now.coefs) ≤ 4096 }
+    requires room { variables + (between + length row.now.coefs) ≤ 4096 + length forms.now }
     ensures { IfOk result (λ new. MatchOption new (IsSmall (substituted variables forms.now row.now) → ⊥)
         (λ f. f ≡ spread variables forms.now between row.now)) }
 {
@@ -143,7 +143,7 @@ pub(crate) fn substituted(
     requires few { length forms.now ≤ 10 }
     requires long { AllLong variables forms.now }
     requires old { All (λ f. length forms.now ≤ length f.coefs) rows.now }
-    requires room { All (λ f. variables + length f.coefs ≤ 4096) rows.now }
+    requires room { All (λ f. variables + length f.coefs ≤ 4096 + length forms.now) rows.now }
     ensures { IfOk result (λ new. MatchOption new (All (λ f. IsSmall (substituted variables forms.now f)) rows.now → ⊥)
         (λ fs. fs ≡ map (substituted variables forms.now) rows.now)) }
 {

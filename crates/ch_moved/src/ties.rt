@@ -64,7 +64,7 @@ fn row_over(
     requires few { length forms.now ≤ 10 }
     requires long { AllLong variables forms.now }
     requires old { length forms.now ≤ length row.now.coefs }
-    requires room { variables + (length forms.now + length row.now.coefs) ≤ 4096 }
+    requires room { variables + length row.now.coefs ≤ 4096 }
     ensures { IfOk result (λ new. IsOver variables forms.now row.now new) }
 {
     match spread(alloc, variables, forms, forms.len(), row)? {
@@ -84,7 +84,7 @@ fn push_over(
     requires few { length forms.now ≤ 10 }
     requires long { AllLong variables forms.now }
     requires old { length forms.now ≤ old.now.vars }
-    requires room { variables + (length forms.now + old.now.vars) ≤ 4096 }
+    requires room { variables + old.now.vars ≤ 4096 }
     ensures { OnOk result (StandOver rows.old variables old.now.vars forms.now old.now.rows rows.new) }
 {
     for row in old.rows.as_slice() {
@@ -158,7 +158,7 @@ pub(crate) fn tied_rows(
     requires few { length forms.now ≤ 10 }
     requires long { AllLong variables forms.now }
     requires old { length forms.now ≤ old.now.vars }
-    requires room { variables + (length forms.now + old.now.vars) ≤ 4096 }
+    requires room { variables + old.now.vars ≤ 4096 }
     ensures { IfOk result (λ new. StandOver (ties 0 old.now.vars forms.now) variables old.now.vars forms.now old.now.rows new) }
 {
     let mut rows = List::new(alloc);
