@@ -5,3 +5,4 @@ pub mod HiddenTies
 pub mod Fronts
 pub mod Over
 pub mod Joining
+pub mod NewPiece
