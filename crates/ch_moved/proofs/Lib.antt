@@ -1,0 +1,8 @@
+pub mod Substitutes
+pub mod Fitted
+pub mod Bounded
+pub mod HiddenTies
+pub mod Fronts
+pub mod Over
+pub mod Joining
+pub mod NewPiece

@@ -1,0 +1,10 @@
+//! What the commands that move elements share: the list that a command makes, the causes that refuse it, and the piece over new
+//! levels from which affine forms give the old ones.
+#![tactic(auto)]
+
+mod bounds;
+mod reindex;
+mod substitute;
+mod ties;
+
+pub use reindex::reindexed;
