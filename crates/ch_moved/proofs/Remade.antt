@@ -6,6 +6,7 @@ use Rattle.std.specs.declared.cmp.Ordering.TheVariants.{Less}
 use Rattle.std.specs.Cmp.Lexicographic.{slice_cmp}
 use Rattle.std.proofs.lemmas.Bool.{and_from, and_parts, or_cases, or_left, or_right}
 use Rattle.std.proofs.lemmas.List.{length-map}
+use Rattle.ch_order.specs.Legal.{AreAmong}
 use Rattle.ch_order.proofs.Kept.{one_identity}
 use Rattle.ch_order.proofs.Steps.{same_identity_of}
 use Rattle.ch_space.specs.declared.piece.Piece.{Piece}
@@ -14,7 +15,7 @@ use Rattle.ch_space.specs.Pieces.{element_at, elements, instances, listed}
 use Rattle.ch_space.proofs.Membership.{append_left, append_right, in_append}
 use Rattle.ch_space.proofs.PieceElements.{element_places, elements_ascend, one_each, whole_in}
 use Rattle.ch_space.proofs.PieceNumbers.{Differ, all_in, instance_in, listed_in, lists_same, ordered_length, same_lists, some_in}
-use Rattle.ch_moved.proofs.Taken.{ComesFrom, PlacesApart, Taken, listed_taken, taken_space}
+use Rattle.ch_moved.proofs.Taken.{ComesFrom, PlacesApart, Taken, listed_taken, steps_among, steps_from, taken_space}
 use Rattle.ch_timed.specs.declared.element.Element.{Element}
 use Rattle.ch_timed.specs.Members.{Each, In}
 use Rattle.ch_timed.specs.Ordered.{ordered}
@@ -214,3 +215,14 @@ module _ (g : Element → Element) (keeps : (e : Element) → step (g e) ≡ ste
       (space.counted ∙ sym (counts_kept g keeps weight commands ps ps qs space.apart differ (λ p i. i) space.apart r))
       (subst (λ n. n ≤ most_pieces) (sym (length_remade g weight commands ps qs r)) space.few_pieces) more few some small
       (all_in (IsLimited weight commands) qs (λ q i. (origin_of g weight commands ps qs r q i).1.1.limited))
+
+  -- and execute the same steps
+  pub remade_among : (arrays : ℕ) (ps qs : List Piece) (counts : List ℕ) (temps : List (List ℕ)) (old_weight old_commands : ℕ)
+      → IsSpace arrays ps counts temps old_weight old_commands → AllRemade g weight commands ps qs → AreAmong (listed ps) (listed qs)
+  remade_among arrays ps qs counts temps old_weight old_commands space r =
+      steps_among arrays ps counts temps old_weight old_commands space g keeps qs (apart_kept g weight commands ps qs r space.apart) (all_taken g weight commands ps qs r)
+
+  pub remade_from : (arrays : ℕ) (ps qs : List Piece) (counts : List ℕ) (temps : List (List ℕ)) (old_weight old_commands : ℕ)
+      → IsSpace arrays ps counts temps old_weight old_commands → AllRemade g weight commands ps qs → AreAmong (listed qs) (listed ps)
+  remade_from arrays ps qs counts temps old_weight old_commands space r =
+      steps_from arrays ps counts temps old_weight old_commands space g keeps qs (apart_kept g weight commands ps qs r space.apart) (all_taken g weight commands ps qs r)

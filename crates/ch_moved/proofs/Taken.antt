@@ -10,7 +10,8 @@ use Rattle.std.proofs.lemmas.Bool.{and_from, and_parts}
 use Rattle.std.proofs.lemmas.List.{length-map}
 use Rattle.ch_affine.specs.Affine.{IsAtMost}
 use Rattle.ch_nest.specs.declared.nest.Access.{Access}
-use Rattle.ch_order.proofs.Kept.{differ_kept}
+use Rattle.ch_order.specs.Legal.{AreAmong}
+use Rattle.ch_order.proofs.Kept.{differ_kept, no_others, steps_kept}
 use Rattle.ch_space.specs.declared.piece.Piece.{Piece}
 use Rattle.ch_space.specs.Keeps.{AreApart, IsBody, IsLimited, IsMoveBelow, IsReached, IsSpace, IsWrapped, accesses, most_commands, most_instances, most_pieces, most_weight, places_of}
 use Rattle.ch_space.specs.Pieces.{elements, instances, listed}
@@ -25,6 +26,8 @@ use Rattle.ch_timed.specs.Members.{Each, In}
 use Rattle.ch_timed.specs.Ordered.{ordered, put, put_by}
 use Rattle.ch_timed.specs.Timed.{Step, identities_differ, in_order, is_well_formed, pieces_apart, step, vectors_ascend, have_vectors}
 use Rattle.ch_timed.specs.Vectors.{places}
+use Rattle.ch_timed.specs.Closed.{closed_up}
+use Rattle.ch_timed.proofs.ClosedUp.{same_steps}
 use Rattle.ch_timed.proofs.Orders.{IsAscending, from_order, in_map, map_in, ordered_ascends, retimed, to_order}
 use Rattle.ch_timed.proofs.Prefixes.{apart}
 use Rattle.ch_timed.proofs.Sorted.{ascends_adjacent}
@@ -46,6 +49,17 @@ put_shorter key e (x ∷ xs) = shorter_by (slice_cmp int_cmp (key e) (key x)) e 
 pub ordered_shorter : {A : Type 0} (key : A → List ℤ) (xs : List A) → length (ordered key xs) ≤ length xs
 ordered_shorter key [] = omega arith
 ordered_shorter key (x ∷ xs) = let h = put_shorter key x (ordered key xs) in let k = ordered_shorter key xs in omega arith
+
+-- closing up changes no steps
+
+closed_steps : (list : List Element) → is_well_formed list ≡ true → map step (closed_up list) ≡ map step list
+closed_steps list h = same_steps list (and_parts _ _ (and_parts _ _ h).1).0
+
+pub among_closed : (list other : List Element) → is_well_formed other ≡ true → AreAmong list other → AreAmong list (closed_up other)
+among_closed list other h a s i = subst (λ z. In s z) (sym (closed_steps other h)) (a s i)
+
+pub closed_among : (list other : List Element) → is_well_formed list ≡ true → AreAmong list other → AreAmong (closed_up list) other
+closed_among list other h a s i = a s (subst (λ z. In s z) (closed_steps list h) i)
 
 -- Each element goes to one of the other pieces, and each of theirs comes from one.
 pub record Taken (g : Element → Element) (ps qs : List Piece) : Type 0 where
@@ -82,6 +96,13 @@ module _ (arrays : ℕ) (ps : List Piece) (counts : List ℕ) (temps : List (Lis
   steps_hold P h = all_in (λ e. P (step e)) (listed qs) (λ f i.
       let r = back f i in
       subst P (sym (keeps r.0) ∙ ap step r.1.1) (at_all (λ e. P (step e)) (listed ps) r.0 h r.1.0))
+
+  -- the same steps are executed
+  pub steps_among : AreAmong (listed ps) (listed qs)
+  steps_among = steps_kept (listed ps) (listed qs) g (ordered_ascends (λ (e : Element). e.vector) (flat_map elements qs)) (and_parts _ _ space.well_formed).0 keeps there back
+
+  pub steps_from : AreAmong (listed qs) (listed ps)
+  steps_from = no_others (listed ps) (listed qs) g (ordered_ascends (λ (e : Element). e.vector) (flat_map elements qs)) (and_parts _ _ space.well_formed).0 keeps there back
 
   fine : PlacesApart qs → is_well_formed (listed qs) ≡ true
   fine far =
