@@ -1,3 +1,4 @@
 pub mod Taken
 pub mod Replaced
 pub mod Remade
+pub mod Parting

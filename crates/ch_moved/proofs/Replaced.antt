@@ -162,10 +162,10 @@ module _ (placed : List ℤ → List ℤ) (g : Element → Element) (keeps : (e 
 
 -- The places of the pieces of a well formed list are apart.
 
-same_apart : (ps : List ℤ) → apart ps ps ≡ true
+pub same_apart : (ps : List ℤ) → apart ps ps ≡ true
 same_apart ps = or_left _ _ (lists_same ps ps refl)
 
-turned : (ps qs : List ℤ) → apart ps qs ≡ true → apart qs ps ≡ true
+pub turned : (ps qs : List ℤ) → apart ps qs ≡ true → apart qs ps ≡ true
 turned ps qs h = elim (or_cases (same_numbers ps qs) (not (begins_with ps qs) && not (begins_with qs ps)) h) as (λ _. apart qs ps ≡ true) [
   | inl s ↦ or_left (same_numbers qs ps) _ (lists_same qs ps (sym (same_lists ps qs s)))
   | inr t ↦
