@@ -6,3 +6,7 @@ pub mod Fronts
 pub mod Over
 pub mod Joining
 pub mod NewPiece
+pub mod Taken
+pub mod Replaced
+pub mod Remade
+pub mod Parting
