@@ -1,2 +1,4 @@
 pub mod Permuted
 pub mod Raised
+pub mod Turned
+pub mod Lowered

@@ -1,0 +1,6 @@
+pub mod Turns
+pub mod Values
+pub mod Turning
+pub mod Columns
+pub mod Raising
+pub mod Steps
