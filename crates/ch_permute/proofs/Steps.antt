@@ -1,21 +1,23 @@
 -- The steps of the code over orders and forms.
-use Rattle.std.proofs.Common.{◌≡◌, ◌≢◌, refl, sym, ap, ap₂, ◌∙◌, subst, ℕ, zero, suc, ◌+◌, ◌-◌, ◌<◌, ◌≤◌, ◌^◌, ℤ, pos, ◌-ℤ◌, neg_ℤ, unsigned_abs, Bool, true, false, List, [], ◌∷◌, ◌++◌, map, length, get_or, set, take, SFits, Fits, w64, arith}
+use Rattle.std.proofs.Common.{◌≡◌, ◌≢◌, refl, sym, ap, ap₂, ◌∙◌, subst, ℕ, zero, suc, ◌+◌, ◌-◌, ◌<◌, ◌≤◌, ◌^◌, ℤ, pos, ◌-ℤ◌, neg_ℤ, unsigned_abs, Bool, true, false, List, [], ◌∷◌, ◌++◌, map, length, get_or, set, take, drop, ◌+ℤ◌, SFits, Fits, w64, arith}
 use Rattle.std.specs.List.{All, list_all, list_any, range_with_len}
 use Rattle.std.specs.Ordering.{int_eq}
 use Rattle.std.specs.Result.{IfOk}
 use Rattle.std.proofs.lemmas.Int.{ints}
 use Rattle.std.proofs.lemmas.Bool.{and_from}
-use Rattle.std.proofs.lemmas.List.{append_assoc, get_or-set_other, get_or-set_same, length-append, length-map, length-set, take_all, take_more}
+use Rattle.std.proofs.lemmas.List.{append_assoc, drop_all, get_or-set_other, get_or-set_same, length-append, length-map, length-set, drop_more, take_all, take_at, take_more}
 use Rattle.std.proofs.lemmas.List.Elements.{All-append, All-cons, All-map, All-nil}
 use Rattle.std.proofs.lemmas.List.Folds.{list_all-append, list_all_at}
 use Rattle.std.proofs.lemmas.List.FromFn.{get_or-range_with_len, length-range_with_len, map-range_with_len_more}
 use Rattle.ch_affine.specs.Affine.{IsAtMost, IsSmall, form}
 use Rattle.ch_affine.specs.Form.{Form}
+use Rattle.ch_affine.specs.declared.system.Range.{Range}
+use Rattle.ch_nest.specs.Shape.{greatest_sum, greatest_term, least_sum, least_term}
 use Rattle.ch_space.proofs.PieceNumbers.{range_more}
 use Rattle.ch_space.specs.Built.{unit, zeros}
-use Rattle.ch_permute.specs.Lowered.{less, minus_forms}
+use Rattle.ch_permute.specs.Lowered.{greater, less, minus_forms}
 use Rattle.ch_permute.specs.Permuted.{is_permutation}
-use Rattle.ch_permute.specs.Turned.{source, target, turned_forms}
+use Rattle.ch_permute.specs.Turned.{origin_range, source, target, turned_forms}
 use Rattle.ch_permute.proofs.Columns.{form_at, forms_count, length_unit}
 use Rattle.ch_permute.proofs.Turns.{IsOrder, level_at, order_of, source_in}
 use Rattle.ch_permute.proofs.Values.{length_zeros}
@@ -103,3 +105,42 @@ minus_count f level n = length-set (turned_forms (λ j. j) n) level (less f (lev
 
 pub next_minus : (forms now next : List Form) (k : ℕ) (one : Form) → k < length forms → one ≡ get_or forms k (unit 0 0) → now ≡ take k forms → next ≡ now ++ one ∷ [] → next ≡ take (k + 1) forms
 next_minus forms now next k one l o so_far p = p ∙ ap₂ (λ xs x. xs ++ x ∷ []) so_far o ∙ sym (take_more forms k (unit 0 0) l)
+
+-- ranges
+
+pub set_written : {X : Type 0} (r s boxes : List X) (k : ℕ) (b c : X) → r ≡ boxes → s ≡ r → b ≡ c → take (length r) (set s k b ++ drop (length (set s k b)) r) ≡ set boxes k c
+set_written r s boxes k b c e f h =
+    let n = length-set s k b in
+    let m = ap length f in
+    take_at (set s k b) (drop (length (set s k b)) r) (length r) (omega arith) ∙ ap₂ (λ xs x. set xs k x) (f ∙ e) h
+
+pub next_box : (s : ℕ → ℕ) (boxes now next : List Range) (k to : ℕ) (one : Range) → to ≡ s k → one ≡ get_or boxes to origin_range → now ≡ map (λ j. get_or boxes (s j) origin_range) (range_with_len 0 k)
+    → next ≡ now ++ one ∷ [] → next ≡ map (λ j. get_or boxes (s j) origin_range) (range_with_len 0 (k + 1))
+next_box s boxes now next k to one e o so_far p =
+    p ∙ ap₂ (λ xs x. xs ++ x ∷ []) so_far (o ∙ ap (λ j. get_or boxes j origin_range) e) ∙ sym (map-range_with_len_more (λ j. get_or boxes (s j) origin_range) 0 k k (omega arith))
+
+least_first : (cs : List ℤ) (rs : List Range) (k : ℕ) → k < length cs → k < length rs
+    → least_sum (drop k cs) (drop k rs) ≡ least_term (get_or cs k (pos 0)) (get_or rs k origin_range) +ℤ least_sum (drop (k + 1) cs) (drop (k + 1) rs)
+least_first cs rs k l m = ap₂ (λ x y. least_sum x y) (drop_more cs k (pos 0) l) (drop_more rs k origin_range m)
+
+greatest_first : (cs : List ℤ) (rs : List Range) (k : ℕ) → k < length cs → k < length rs
+    → greatest_sum (drop k cs) (drop k rs) ≡ greatest_term (get_or cs k (pos 0)) (get_or rs k origin_range) +ℤ greatest_sum (drop (k + 1) cs) (drop (k + 1) rs)
+greatest_first cs rs k l m = ap₂ (λ x y. greatest_sum x y) (drop_more cs k (pos 0) l) (drop_more rs k origin_range m)
+
+pub next_least : (cs : List ℤ) (rs : List Range) (k : ℕ) (sum term next total : ℤ) → k < length cs → k < length rs → term ≡ least_term (get_or cs k (pos 0)) (get_or rs k origin_range) → next ≡ sum +ℤ term
+    → sum +ℤ least_sum (drop k cs) (drop k rs) ≡ total → next +ℤ least_sum (drop (k + 1) cs) (drop (k + 1) rs) ≡ total
+next_least cs rs k sum term next total l m e n t = let f = least_first cs rs k l m in omega (arith, ints)
+
+pub next_greatest : (cs : List ℤ) (rs : List Range) (k : ℕ) (sum term next total : ℤ) → k < length cs → k < length rs → term ≡ greatest_term (get_or cs k (pos 0)) (get_or rs k origin_range) → next ≡ sum +ℤ term
+    → sum +ℤ greatest_sum (drop k cs) (drop k rs) ≡ total → next +ℤ greatest_sum (drop (k + 1) cs) (drop (k + 1) rs) ≡ total
+next_greatest cs rs k sum term next total l m e n t = let f = greatest_first cs rs k l m in omega (arith, ints)
+
+pub greater_is : (cs : List ℤ) (a t : ℤ) (rs : List Range) (r sum : Range) (k : ℕ) → length cs ≤ k → t ≡ a
+    → sum.low +ℤ least_sum (drop k cs) (drop k rs) ≡ (r.low +ℤ t) +ℤ least_sum cs rs → sum.high +ℤ greatest_sum (drop k cs) (drop k rs) ≡ (r.high +ℤ t) +ℤ greatest_sum cs rs
+    → sum ≡ greater (form cs a) rs r
+greater_is cs a t rs r sum k l e low high =
+    let n : least_sum (drop k cs) (drop k rs) ≡ pos 0 = ap (λ xs. least_sum xs (drop k rs)) (drop_all k cs l) in
+    let m : greatest_sum (drop k cs) (drop k rs) ≡ pos 0 = ap (λ xs. greatest_sum xs (drop k rs)) (drop_all k cs l) in
+    let p : sum.low ≡ r.low +ℤ (a +ℤ least_sum cs rs) = omega (arith, ints) in
+    let q : sum.high ≡ r.high +ℤ (a +ℤ greatest_sum cs rs) = omega (arith, ints) in
+    λ i. record { low = p i; high = q i }

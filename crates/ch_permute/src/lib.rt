@@ -3,3 +3,4 @@
 
 mod forms;
 mod ordering;
+mod ranges;
