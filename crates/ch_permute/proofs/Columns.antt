@@ -9,9 +9,8 @@ use Rattle.ch_affine.specs.Affine.{dot, form}
 use Rattle.ch_affine.specs.Form.{Form}
 use Rattle.ch_moved.specs.Spread.{column, constants}
 use Rattle.ch_permute.specs.Lowered.{less, minus_forms}
-use Rattle.ch_permute.specs.Turned.{turned_forms}
+use Rattle.ch_permute.specs.Turned.{Turns, turned_forms}
 use Rattle.ch_space.specs.Built.{unit, zeros}
-use Rattle.ch_permute.proofs.Turns.{Turns}
 use Rattle.ch_permute.proofs.Values.{dot_nothing, dot_pick, dot_set, length_zeros, unit_other, unit_same, zero_at}
 
 pub same_or_not : (j k : ℕ) → (j ≡ k) ⊎ (j ≢ k)

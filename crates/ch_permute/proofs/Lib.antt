@@ -4,3 +4,4 @@ pub mod Turning
 pub mod Columns
 pub mod Raising
 pub mod Steps
+pub mod Limits

@@ -12,9 +12,8 @@ use Rattle.ch_affine.specs.declared.system.Range.{Range}
 use Rattle.ch_moved.specs.Arguments.{at_level, natural}
 use Rattle.ch_moved.specs.Substituted.{image}
 use Rattle.ch_permute.specs.Permuted.{picked}
-use Rattle.ch_permute.specs.Turned.{origin_range, source, source_by, turned, turned_boxes, turned_forms}
+use Rattle.ch_permute.specs.Turned.{Turns, origin_range, source, source_by, turned, turned_boxes, turned_forms}
 use Rattle.ch_space.specs.Built.{unit, zeros}
-use Rattle.ch_permute.proofs.Turns.{Turns}
 use Rattle.ch_permute.proofs.Values.{IsWithin, dot_unit, dot_pick, length_zeros, lies_at, lies_by, lies_length, unit_other, unit_same}
 
 pub length_turned : (s : ℕ → ℕ) (xs : List ℤ) → length (turned s xs) ≡ length xs

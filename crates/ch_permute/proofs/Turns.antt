@@ -6,7 +6,7 @@ use Rattle.std.proofs.lemmas.Bool.{both_ways, and_parts, or_cases, or_left, or_r
 use Rattle.ch_timed.specs.Members.{In}
 use Rattle.ch_moved.specs.Arguments.{natural}
 use Rattle.ch_permute.specs.Permuted.{is_permutation, last_from, moving}
-use Rattle.ch_permute.specs.Turned.{place, source, source_by, target, target_by}
+use Rattle.ch_permute.specs.Turned.{Turns, place, source, source_by, target, target_by}
 
 -- the numbers without the one at a place
 without : ℕ → List ℤ → List ℤ
@@ -238,13 +238,7 @@ module _ (order : List ℤ) (is : IsOrder order) (first : ℕ) (more : List ℕ)
     | inr a ↦ let e : target order k ≡ k = sym (fixed (target order k) a) ∙ source_target order is k in absurd (omega arith)
   ]
 
--- The levels of a piece, as deep as the last one that another one replaces, change places among themselves.
-pub record Turns (d : ℕ) (s t : ℕ → ℕ) : Type 0 where
-  pub below : (k : ℕ) → k < d → s k < d
-  pub below_too : (k : ℕ) → k < d → t k < d
-  pub there : (k : ℕ) → s (t k) ≡ k
-  pub back : (k : ℕ) → t (s k) ≡ k
-
+-- an order turns the levels of each piece that is as deep as the last level that another one replaces
 pub turns : (order : List ℤ) (first : ℕ) (more : List ℕ) (d : ℕ) → is_permutation order ≡ true → moving 1 order ≡ first ∷ more → last_from first more ≤ d → Turns d (source order) (target order)
 turns order first more d p m l = record {
   below = source_below order (order_of order p) first more m d l;

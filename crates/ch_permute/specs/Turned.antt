@@ -1,5 +1,5 @@
 -- Loop values that change places.
-use Rattle.std.specs.Prelude.{ℕ, suc, ◌-◌, ℤ, pos, Bool, true, false, if◌then◌else◌, nat_lt, List, [], ◌∷◌, length, map, slice_index_or}
+use Rattle.std.specs.Prelude.{◌≡◌, ℕ, suc, ◌-◌, ◌<◌, ℤ, pos, Bool, true, false, if◌then◌else◌, nat_lt, List, [], ◌∷◌, length, map, slice_index_or}
 use Rattle.std.specs.List.{range_with_len}
 use Rattle.std.specs.Ordering.{int_eq}
 use Rattle.ch_affine.specs.Form.{Form}
@@ -43,3 +43,10 @@ turned_boxes from boxes = map (λ k. slice_index_or boxes (from k) origin_range)
 -- the forms of n values, each that of the one variable which `to` names
 abbrev pub turned_forms : (ℕ → ℕ) → ℕ → List Form
 turned_forms to n = map (λ k. unit (to k) (n - 1 - to k)) (range_with_len 0 n)
+
+-- The first d places change among themselves, and back.
+pub record Turns (d : ℕ) (from to : ℕ → ℕ) : Type 0 where
+  pub below : (k : ℕ) → k < d → from k < d
+  pub below_too : (k : ℕ) → k < d → to k < d
+  pub there : (k : ℕ) → from (to k) ≡ k
+  pub back : (k : ℕ) → to (from k) ≡ k
