@@ -5,3 +5,5 @@ pub mod Columns
 pub mod Raising
 pub mod Steps
 pub mod Limits
+pub mod Changing
+pub mod BothChanges
