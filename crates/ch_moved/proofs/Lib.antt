@@ -10,3 +10,4 @@ pub mod Taken
 pub mod Replaced
 pub mod Remade
 pub mod Parting
+pub mod Causing

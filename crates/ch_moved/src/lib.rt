@@ -3,6 +3,7 @@
 #![tactic(auto)]
 
 mod bounds;
+pub mod causes;
 mod reindex;
 mod substitute;
 mod ties;

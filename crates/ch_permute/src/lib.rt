@@ -1,0 +1,6 @@
+//! Loops in another order, skewed loops and shifted loops: the commands that keep the pieces and their places, and change loop values.
+#![tactic(auto)]
+
+mod forms;
+mod ordering;
+mod ranges;
