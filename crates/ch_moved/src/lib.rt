@@ -4,6 +4,8 @@
 
 mod bounds;
 mod reindex;
+#[cfg(test)]
+mod reindex_tests;
 mod substitute;
 mod ties;
 
