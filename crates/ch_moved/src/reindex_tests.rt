@@ -62,24 +62,62 @@ fn line(alloc: Global, range: Range, row: Aff) -> Result<Piece, Fail>
     })
 }
 
-/// How many values of its one variable the system has from 0 to 9.
-fn values(system: &System) -> usize {
-    if system.vars != 1 {
-        return 0;
-    }
-    (0..10).filter(|x| system.holds(&[*x])).count()
+/// The line from 0 to 3 where the row holds, whose value the form gives from new levels.
+fn moved(
+    alloc: Global,
+    row: Aff,
+    form: Aff,
+    boxes: List<Range>,
+    places: List<u32>,
+) -> Result<Piece, Fail>
+    requires long { length form.coefs ≡ length boxes }
+    requires near { IsAtMost (2 ^ 59) form.constant }
+    requires few { length boxes ≤ 2 }
+    requires ranges { All IsBox boxes }
+    requires places { length places ≡ length boxes + 1 }
+{
+    let piece = line(alloc, Range { low: 0, high: 3 }, row)?;
+    let forms = one(alloc, form)?;
+    let new = reindexed(alloc, &piece, forms.as_slice(), boxes, &[], places)?;
+    Ok(new)
 }
 
 #[test]
 fn a_shift_adds_no_row(rt: HostRuntime) -> Result<(), Fail> {
     let alloc = rt.alloc();
-    let piece = line(alloc, Range { low: 0, high: 3 }, form(alloc, &[1], -1)?)?;
-    let shift = one(alloc, form(alloc, &[1], -5)?)?;
     let boxes = one(alloc, Range { low: 5, high: 8 })?;
     let places = List::from_slice(alloc, &[0, 0])?;
-    let new = reindexed(alloc, &piece, shift.as_slice(), boxes, &[], places)?;
+    let row = form(alloc, &[1], -1)?;
+    let new = moved(alloc, row, form(alloc, &[1], -5)?, boxes, places)?;
     assert_eq!(rt; new.hidden, 0);
     assert_eq!(rt; new.system.rows.len(), 1);
-    assert_eq!(rt; values(&new.system), 3);
+    assert!(rt; new.system.vars == 1 && new.system.holds(&[6]) && !new.system.holds(&[5]));
+    Ok(())
+}
+
+#[test]
+fn a_skew_keeps_to_the_old_range(rt: HostRuntime) -> Result<(), Fail> {
+    let alloc = rt.alloc();
+    let range = Range { low: 0, high: 3 };
+    let boxes = List::from_slice(alloc, &[range, range])?;
+    let places = List::from_slice(alloc, &[0, 0, 0])?;
+    let row = form(alloc, &[1], -1)?;
+    let new = moved(alloc, row, form(alloc, &[1, 1], 0)?, boxes, places)?;
+    assert_eq!(rt; new.hidden, 0);
+    assert_eq!(rt; new.system.rows.len(), 2);
+    assert!(rt; new.system.vars == 2 && new.system.holds(&[1, 2]) && !new.system.holds(&[2, 2]));
+    Ok(())
+}
+
+#[test]
+fn a_row_too_large_stays_over_a_hidden_level(rt: HostRuntime) -> Result<(), Fail> {
+    let alloc = rt.alloc();
+    let boxes = one(alloc, Range { low: 0, high: 1 })?;
+    let places = List::from_slice(alloc, &[0, 0])?;
+    let row = form(alloc, &[1 << 60], -1)?;
+    let new = moved(alloc, row, form(alloc, &[2], 0)?, boxes, places)?;
+    assert_eq!(rt; new.hidden, 1);
+    assert_eq!(rt; new.system.rows.len(), 3);
+    assert!(rt; new.system.vars == 2 && new.system.holds(&[1, 2]) && !new.system.holds(&[1, 1]));
     Ok(())
 }
