@@ -1,5 +1,5 @@
 -- What the points of a system over new variables begin with.
-use Rattle.std.proofs.Common.{◌≡◌, refl, sym, ap, ap₂, ◌∙◌, subst, ℕ, zero, suc, ◌+◌, ◌≤◌, ◌↔◌, ℤ, ◌≤ℤ◌, int_le, Bool, true, ◌&&◌, List, [], ◌∷◌, ◌++◌, map, length, take, drop, arith, take-append-drop, length-take-le, take_at, drop_at, length-append, length-drop}
+use Rattle.std.proofs.Common.{◌≡◌, refl, sym, ap, ◌∙◌, subst, ℕ, zero, suc, ◌+◌, ◌≤◌, ◌↔◌, ℤ, ◌≤ℤ◌, int_le, true, ◌&&◌, List, [], ◌∷◌, ◌++◌, map, length, take, drop, arith, take-append-drop, length-take-le, take_at, drop_at, length-append, length-drop}
 use Rattle.std.specs.Bool.{IsTrue}
 use Rattle.std.specs.List.{All}
 use Rattle.std.proofs.lemmas.Bool.{and_parts}
@@ -9,11 +9,10 @@ use Rattle.ch_affine.specs.Form.{Form}
 use Rattle.ch_affine.specs.Affine.{IsSmall}
 use Rattle.ch_affine.specs.Rows.{Rows, all_hold, lies_in, system}
 use Rattle.ch_affine.specs.declared.system.Range.{Range}
-use Rattle.ch_moved.specs.Changed.{AllLong, AreConditions, AreOver, StandOver, IsChanged, fronts}
+use Rattle.ch_moved.specs.Changed.{AllLong, AreConditions, StandOver, IsChanged, fronts}
 use Rattle.ch_moved.specs.Spread.{ties, widened}
 use Rattle.ch_moved.specs.Substituted.{image, substituted}
 use Rattle.ch_moved.proofs.HiddenTies.{rows_parts, rows_joined, rows_substituted, rows_widened, ties_hold, ties_held}
-use Rattle.ch_moved.proofs.Substitutes.{length_image}
 use Rattle.ch_poly.specs.Points.{begins, begins_some, box_points, points}
 use Rattle.ch_poly.proofs.Firsts.{InBox}
 use Rattle.ch_space.proofs.Membership.{in_filter, filter_in, any_from, any_in, in_box_points, box_points_in, length_inside, begins_take, take_begins}
@@ -101,12 +100,12 @@ pub record Agrees (old : Rows) (gs : List Form) (boxes : List Range) (extra : Li
 fronts_agree : (old : Rows) (gs : List Form) (boxes : List Range) (extra : List Form) (s : Rows) → Agrees old gs boxes extra s
     → (ys : List ℤ) → In ys (fronts (length boxes) s) ↔ (IsTrue (lies_in boxes ys) × IsTrue (all_hold extra ys) × In (image gs ys) (fronts (length gs) old))
 fronts_agree old gs boxes extra s a ys = (
-    (λ i.
+  (λ i.
       let f = in_fronts (length boxes) s a.new_few ys i in
       let inside = inside_lies boxes ys (subst (λ rs. InBox rs ys) a.boxes_are f.inside) in
       let r = a.forth ys f.hidden inside f.hidden_inside f.holds in
       (inside, r.0, fronts_in (length gs) old a.old_few (image gs ys) r.1)),
-    (λ h.
+  (λ h.
       let b = a.back ys h.0 h.1 (in_fronts (length gs) old a.old_few (image gs ys) h.2) in
       fronts_in (length boxes) s a.new_few ys (record {
         inside = subst (λ rs. InBox rs ys) (sym a.boxes_are) (lies_inside boxes ys h.0);
@@ -114,7 +113,7 @@ fronts_agree old gs boxes extra s a ys = (
         hidden_inside = b.1.0;
         holds = b.1.1;
       })),
-  )
+)
 
 -- the conditions
 
@@ -192,11 +191,14 @@ module _ (old : Rows) (gs : List Form) (boxes : List Range) (extra conditions : 
           let m = met old gs boxes extra conditions g.conditions ys i p.1 in
           (m.0, record { inside = m.1; hidden = zs; hidden_inside = subst (λ rs. InBox rs zs) (hidden_boxes _ conditions boxes _ s j) b; holds = sym (put_in ys zs e) ∙ p.0 });
       back = λ ys i h f.
-          let e = long_point ys i in
-          (f.hidden, (
-            subst (λ rs. InBox rs f.hidden) (sym (hidden_boxes _ conditions boxes _ s j)) f.hidden_inside,
-            joined_both _ conditions boxes _ s j g.conditions.long ys f.hidden e (put_in ys f.hidden e ∙ f.holds)
-                (meet old gs boxes extra conditions g.conditions ys i h f.inside)));
+          let e = long_point ys i in (
+            f.hidden,
+            (
+              subst (λ rs. InBox rs f.hidden) (sym (hidden_boxes _ conditions boxes _ s j)) f.hidden_inside,
+              joined_both _ conditions boxes _ s j g.conditions.long ys f.hidden e (put_in ys f.hidden e ∙ f.holds)
+                  (meet old gs boxes extra conditions g.conditions ys i h f.inside),
+            ),
+          );
     }
 
   -- the old variables as hidden ones
@@ -217,13 +219,15 @@ module _ (old : Rows) (gs : List Form) (boxes : List Range) (extra conditions : 
         let p = joined_parts rows conditions boxes old.boxes s j g.conditions.long ys zs e h in
         let m = met old gs boxes extra conditions g.conditions ys i p.1 in
         let q = split ys zs p.0 in
-        let same : zs ≡ image gs ys ++ drop (length gs) zs = sym (take-append-drop (length gs) zs) ∙ ap (λ z. z ++ drop (length gs) zs) (tied_front ys zs e b q.0) in
-        (m.0, record {
-          inside = m.1;
-          hidden = drop (length gs) zs;
-          hidden_inside = (inside_parts (length gs) old.boxes zs b).1;
-          holds = sym (t.are.hold ys (drop (length gs) zs) e) ∙ ap (λ z. all_hold t.over (ys ++ z)) (sym same) ∙ q.1;
-        })
+        let same : zs ≡ image gs ys ++ drop (length gs) zs = sym (take-append-drop (length gs) zs) ∙ ap (λ z. z ++ drop (length gs) zs) (tied_front ys zs e b q.0) in (
+          m.0,
+          record {
+            inside = m.1;
+            hidden = drop (length gs) zs;
+            hidden_inside = (inside_parts (length gs) old.boxes zs b).1;
+            holds = sym (t.are.hold ys (drop (length gs) zs) e) ∙ ap (λ z. all_hold t.over (ys ++ z)) (sym same) ∙ q.1;
+          },
+        )
 
     tied_back : (ys : List ℤ) → IsTrue (lies_in boxes ys) → all_hold extra ys ≡ true → IsFront (length gs) old (image gs ys)
         → (zs : List ℤ) × (InBox old.boxes zs × (all_hold s.rows (ys ++ zs) ≡ true))
@@ -231,11 +235,14 @@ module _ (old : Rows) (gs : List Form) (boxes : List Range) (extra conditions : 
         let e = long_point ys i in
         let zs : List ℤ = image gs ys ++ f.hidden in
         let first = ties_hold 0 old.vars gs ys [] f.hidden (subst (λ m. AllLong m gs) (sym e) g.long) refl in
-        let both = rows_joined (ties 0 old.vars gs) t.over (ys ++ zs) first (t.are.hold ys f.hidden e ∙ f.holds) in
-        (zs, (
-          subst (λ rs. InBox rs zs) (take-append-drop (length gs) old.boxes) (inside_both ranges (drop (length gs) old.boxes) (image gs ys) f.hidden f.inside f.hidden_inside),
-          joined_both rows conditions boxes old.boxes s j g.conditions.long ys zs e (ap (λ fs. all_hold fs (ys ++ zs)) t.behind ∙ both)
-              (meet old gs boxes extra conditions g.conditions ys i h f.inside)))
+        let both = rows_joined (ties 0 old.vars gs) t.over (ys ++ zs) first (t.are.hold ys f.hidden e ∙ f.holds) in (
+          zs,
+          (
+            subst (λ rs. InBox rs zs) (take-append-drop (length gs) old.boxes) (inside_both ranges (drop (length gs) old.boxes) (image gs ys) f.hidden f.inside f.hidden_inside),
+            joined_both rows conditions boxes old.boxes s j g.conditions.long ys zs e (ap (λ fs. all_hold fs (ys ++ zs)) t.behind ∙ both)
+                (meet old gs boxes extra conditions g.conditions ys i h f.inside),
+          ),
+        )
 
     pub tied_agrees : Agrees old gs boxes extra s
     tied_agrees = record {

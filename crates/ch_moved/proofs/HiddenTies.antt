@@ -1,13 +1,12 @@
 -- Rows over new variables and hidden ones.
-use Rattle.std.proofs.Common.{◌≡◌, refl, sym, ap, ap₂, ◌∙◌, subst, ℕ, zero, suc, ◌+◌, ◌-◌, ◌<◌, ◌≤◌, ℤ, pos, negsuc, neg_ℤ, ◌+ℤ◌, ◌-ℤ◌, ◌*ℤ◌, ◌≤ℤ◌, int_le, Bool, true, false, ◌&&◌, List, [], ◌∷◌, ◌++◌, map, length, take, drop, arith, append_assoc, length-append}
-use Rattle.std.specs.Bool.{IsTrue}
-use Rattle.std.specs.List.{All, list_all}
+use Rattle.std.proofs.Common.{◌≡◌, refl, sym, ap, ap₂, ◌∙◌, ℕ, suc, ◌-◌, ◌≤◌, ℤ, pos, negsuc, neg_ℤ, ◌+ℤ◌, ◌-ℤ◌, ◌*ℤ◌, ◌≤ℤ◌, int_le, Bool, true, ◌&&◌, List, [], ◌∷◌, ◌++◌, map, length, arith, append_assoc, length-append}
+use Rattle.std.specs.List.{All}
 use Rattle.std.proofs.lemmas.Bool.{and_parts}
 use Rattle.std.proofs.lemmas.Int.{ints}
 use Rattle.std.proofs.lemmas.List.Elements.{All-head, All-tail}
 use Rattle.std.proofs.lemmas.List.Folds.{list_all-append}
 use Rattle.ch_affine.specs.Form.{Form}
-use Rattle.ch_affine.specs.Affine.{dot, value}
+use Rattle.ch_affine.specs.Affine.{value}
 use Rattle.ch_affine.specs.Rows.{all_hold}
 use Rattle.ch_moved.specs.Changed.{AllLong}
 use Rattle.ch_moved.specs.Spread.{opposite, tied, ties, widened}
@@ -111,6 +110,6 @@ ties_held k hidden (g ∷ gs) ys us (x ∷ xs) hs a l m h =
     let t = and_parts (int_le (pos 0) (value (tied g k (negsuc 0) after) p)) (int_le (pos 0) (value (tied (opposite g) k (pos 1) after) p) && all_hold (ties (suc k) hidden gs) p) h in
     let u = and_parts (int_le (pos 0) (value (tied (opposite g) k (pos 1) after) p)) (all_hold (ties (suc k) hidden gs) p) t.1 in
     let more = ties_held (suc k) hidden gs ys (us ++ x ∷ []) xs hs (long_tail (length ys) g gs a) (one_longer us x k l) (omega arith)
-        (ap (all_hold (ties (suc k) hidden gs)) (sym (shifted ys us rest x)) ∙ u.1) in
+    (ap (all_hold (ties (suc k) hidden gs)) (sym (shifted ys us rest x)) ∙ u.1) in
     ap₂ (λ z zs. z ∷ zs)
     (same_from _ (value g ys) _ x (below g k after x ys us rest e l) (over g k after x ys us rest e l) t.0 u.0) more

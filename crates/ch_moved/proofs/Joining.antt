@@ -1,5 +1,5 @@
 -- Systems over new variables.
-use Rattle.std.proofs.Common.{◌≡◌, refl, sym, ap, ap₂, ◌∙◌, subst, ℕ, zero, suc, ◌+◌, ◌-◌, ◌<◌, ◌≤◌, ℤ, pos, negsuc, Result, Ok, Err, IfOk, List, [], ◌∷◌, ◌++◌, map, length, take, drop, arith, length-append, length-drop}
+use Rattle.std.proofs.Common.{◌≡◌, sym, ap, ◌∙◌, subst, ℕ, suc, ◌+◌, ◌-◌, ◌<◌, ◌≤◌, ℤ, pos, negsuc, Result, Ok, Err, IfOk, List, [], ◌∷◌, ◌++◌, map, length, take, drop, arith, length-append}
 use Rattle.std.specs.List.{All}
 use Rattle.std.proofs.lemmas.List.Elements.{All-nil, All-cons, All-head, All-append, All-map, All-weaker}
 use Rattle.ch_affine.specs.Form.{Form}
@@ -34,7 +34,7 @@ joined_system rows conditions new boxes hidden both vars few a b c d e f v =
     record {
       few = subst (λ k. k ≤ 4096) n few;
       rows = subst (AllLong vars) (sym e) (All-append (λ f. length f.coefs ≡ vars) rows (map (widened (length hidden)) conditions) (long_same _ vars rows n a)
-        (long_same _ vars _ n (widened_long (length boxes) (length hidden) conditions b)));
+          (long_same _ vars _ n (widened_long (length boxes) (length hidden) conditions b)));
       boxes = sym v;
       each = subst (All IsBox) (sym f) (All-append IsBox boxes hidden c d);
     }
@@ -52,7 +52,7 @@ pub substituted_long : (n vars hidden : ℕ) (gs rows new : List Form) → AllLo
 substituted_long n vars hidden gs rows new a l h b e =
     subst (AllLong (n + hidden)) (sym e)
     (All-map (λ f. length f.coefs ≡ n + hidden) (substituted n gs) rows
-      (All-weaker (λ f. length f.coefs ≡ vars) (λ f. length (substituted n gs f).coefs ≡ n + hidden) (λ f k. substituted_length n vars hidden gs f a l h k) rows b))
+    (All-weaker (λ f. length f.coefs ≡ vars) (λ f. length (substituted n gs f).coefs ≡ n + hidden) (λ f k. substituted_length n vars hidden gs f a l h k) rows b))
 
 length_tied : (n k hidden : ℕ) (c : ℤ) (f : Form) → length f.coefs ≡ n → k < hidden → length (tied f k c (hidden - 1 - k)).coefs ≡ n + hidden
 length_tied n k hidden c f e l =
@@ -71,7 +71,7 @@ ties_long n k hidden (g ∷ gs) a l =
     let more : List Form = ties (suc k) hidden gs in
     All-cons (λ f. length f.coefs ≡ n + hidden) (tied g k (negsuc 0) after) (tied (opposite g) k (pos 1) after ∷ more) (length_tied n k hidden (negsuc 0) g e lt)
     (All-cons (λ f. length f.coefs ≡ n + hidden) (tied (opposite g) k (pos 1) after) more (length_tied n k hidden (pos 1) (opposite g) (length_opposite g ∙ e) lt)
-      (ties_long n (suc k) hidden gs (long_tail n g gs a) (omega arith)))
+    (ties_long n (suc k) hidden gs (long_tail n g gs a) (omega arith)))
 
 pub tied_long : (n old hidden : ℕ) (gs rows new : List Form) → AllLong n gs → length gs ≤ old → hidden ≡ old → StandOver (ties 0 old gs) n old gs rows new → AllLong (n + hidden) new
 tied_long n old hidden gs rows new a l h s =

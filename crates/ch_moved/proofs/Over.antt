@@ -1,12 +1,11 @@
 -- Rows over new variables and, as hidden ones, the old ones.
-use Rattle.std.proofs.Common.{◌≡◌, refl, sym, ap, ap₂, ◌∙◌, subst, ℕ, suc, ◌+◌, ◌-◌, ◌<◌, ◌≤◌, ℤ, pos, negsuc, int_le, ◌&&◌, Result, Ok, Err, IfOk, List, [], ◌∷◌, ◌++◌, length, take, drop, get_or, arith, append_assoc, append-nil, length-append}
-use Rattle.std.proofs.lemmas.List.{take_more, drop_more, drop_all}
+use Rattle.std.proofs.Common.{◌≡◌, sym, ap, ap₂, ◌∙◌, subst, ℕ, ◌+◌, ◌<◌, ◌≤◌, ℤ, pos, int_le, ◌&&◌, Result, Ok, Err, IfOk, List, [], ◌∷◌, ◌++◌, length, take, get_or, arith, append_assoc, length-append}
+use Rattle.std.proofs.lemmas.List.{take_more}
 use Rattle.std.proofs.lemmas.List.Elements.{All-push}
 use Rattle.ch_affine.specs.Form.{Form}
-use Rattle.ch_affine.specs.Affine.{value}
 use Rattle.ch_affine.specs.Rows.{all_hold}
-use Rattle.ch_moved.specs.Changed.{AllLong, AreOver, IsOver, StandOver}
-use Rattle.ch_moved.specs.Spread.{kept, opposite, spread, tied, ties}
+use Rattle.ch_moved.specs.Changed.{AllLong, IsOver, StandOver}
+use Rattle.ch_moved.specs.Spread.{kept, spread}
 use Rattle.ch_moved.specs.Substituted.{image}
 use Rattle.ch_moved.proofs.Bounded.{hold_push}
 use Rattle.ch_moved.proofs.Fitted.{length_spread}

@@ -1,6 +1,5 @@
 -- Forms put in place of variables: the numbers of the new form, and its value.
-use Rattle.std.proofs.Common.{◌≡◌, refl, sym, ap, ap₂, ◌∙◌, subst, ℕ, zero, suc, ◌+◌, ◌<◌, ◌≤◌, ℤ, pos, ◌+ℤ◌, ◌*ℤ◌, List, [], ◌∷◌, ◌++◌, map, length, take, drop, get_or, arith, take-append-drop, length-take-le}
-use Rattle.std.specs.List.{All}
+use Rattle.std.proofs.Common.{◌≡◌, refl, sym, ap, ◌∙◌, subst, ℕ, zero, suc, ◌<◌, ◌≤◌, ℤ, pos, ◌+ℤ◌, ◌*ℤ◌, List, [], ◌∷◌, ◌++◌, length, take, drop, get_or, arith, take-append-drop, length-take-le}
 use Rattle.std.proofs.lemmas.Int.{ints}
 use Rattle.std.proofs.lemmas.List.{length-map}
 use Rattle.std.proofs.lemmas.List.Elements.{All-head, All-tail}
@@ -9,7 +8,7 @@ use Rattle.ch_affine.specs.Affine.{dot, form, value}
 use Rattle.ch_affine.proofs.Integers.{plus_times as sum_times, times_plus, times_assoc, times_zero}
 use Rattle.ch_moved.specs.Changed.{AllLong}
 use Rattle.ch_moved.specs.Spread.{column, constants}
-use Rattle.ch_moved.specs.Substituted.{combined, image, plus_times, substituted}
+use Rattle.ch_moved.specs.Substituted.{combined, image, plus_times}
 use Rattle.ch_space.specs.Built.{zeros}
 use Rattle.ch_space.proofs.Rowed.{dot_zeros, dot_front}
 

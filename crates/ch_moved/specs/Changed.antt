@@ -1,5 +1,5 @@
 -- What the parts of a change of variables keep.
-use Rattle.std.specs.Prelude.{◌≡◌, ℕ, ◌+◌, ◌≤◌, ◌↔◌, ℤ, Bool, ◌&&◌, IsTrue, List, length, ◌++◌, take}
+use Rattle.std.specs.Prelude.{◌≡◌, ℕ, ◌+◌, ◌≤◌, ◌↔◌, ℤ, ◌&&◌, IsTrue, List, length, ◌++◌, take}
 use Rattle.std.specs.List.{All, filter}
 use Rattle.ch_affine.specs.Affine.{IsSmall, value}
 use Rattle.ch_affine.specs.Form.{Form}

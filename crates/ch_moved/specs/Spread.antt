@@ -1,5 +1,5 @@
 -- Rows over new variables and the hidden ones behind them.
-use Rattle.std.specs.Prelude.{ℕ, zero, suc, ◌+◌, ◌-◌, ℤ, pos, negsuc, ◌+ℤ◌, ◌-ℤ◌, neg_ℤ, List, [], ◌∷◌, ◌++◌, length, map, take, drop, slice_index_or}
+use Rattle.std.specs.Prelude.{ℕ, suc, ◌-◌, ℤ, pos, negsuc, ◌-ℤ◌, neg_ℤ, List, [], ◌∷◌, ◌++◌, length, map, take, drop, slice_index_or}
 use Rattle.ch_affine.specs.Affine.{form}
 use Rattle.ch_affine.specs.Form.{Form}
 use Rattle.ch_moved.specs.Substituted.{combined}

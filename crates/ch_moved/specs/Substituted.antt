@@ -1,5 +1,5 @@
 -- Forms of new variables in place of old ones.
-use Rattle.std.specs.Prelude.{ℕ, zero, suc, ℤ, pos, ◌+ℤ◌, ◌*ℤ◌, List, [], ◌∷◌, ◌++◌, length, map, take, drop}
+use Rattle.std.specs.Prelude.{ℕ, ℤ, ◌+ℤ◌, ◌*ℤ◌, List, [], ◌∷◌, ◌++◌, length, map, take, drop}
 use Rattle.ch_affine.specs.Affine.{form, value}
 use Rattle.ch_affine.specs.Form.{Form}
 use Rattle.ch_space.specs.Built.{zeros}

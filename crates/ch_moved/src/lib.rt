@@ -5,6 +5,8 @@
 mod bounds;
 pub mod causes;
 mod reindex;
+#[cfg(test)]
+mod reindex_tests;
 mod substitute;
 mod ties;
 

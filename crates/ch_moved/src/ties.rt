@@ -55,12 +55,7 @@ fn kept(alloc: Global, before: usize, form: &Aff) -> Result<Aff, AllocError>
 }
 
 /// The row with the forms put in, or where a number of this passes the limit of forms the row as it is, over the hidden variables.
-fn row_over(
-    alloc: Global,
-    variables: usize,
-    forms: &[Aff],
-    row: &Aff,
-) -> Result<Aff, AllocError>
+fn row_over(alloc: Global, variables: usize, forms: &[Aff], row: &Aff) -> Result<Aff, AllocError>
     requires few { length forms.now ≤ 10 }
     requires long { AllLong variables forms.now }
     requires old { length forms.now ≤ length row.now.coefs }

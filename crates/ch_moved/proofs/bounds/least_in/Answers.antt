@@ -1,4 +1,4 @@
-use Rattle.std.proofs.Common.{◌≡◌, ◌∙◌, ap, sym, length, pos, get_or, rules, arith, SFits, w64}
+use Rattle.std.proofs.Common.{◌∙◌, ap, length, pos, get_or, rules, arith, SFits, w64}
 use Rattle.std.specs.Int.{w128}
 use Rattle.std.proofs.lemmas.Int.{to_z-of_z}
 use Rattle.ch_moved.proofs.Bounded.{least_more}

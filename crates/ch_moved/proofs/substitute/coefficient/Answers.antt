@@ -15,8 +15,8 @@ loop-k-preserved c = record {
       let product = simp to_z-of_z at c.product.ensures.value in
       let plus = simp to_z-of_z at c.plus-sum.ensures.value in
       simp to_z-of_z (
-        forms_more (λ g. get_or g.coefs c.args.place (pos 0)) c.args.factors.now c.args.forms.now c.loop-k.k c.index-forms-k.result _ _ _ _ c.loop-k-test.true c.requires.long
-        (product ∙ ap (λ z. get_or c.args.factors.now c.loop-k.k (pos 0) *ℤ z) at) plus c.loop-k.invariant.rest
+      forms_more (λ g. get_or g.coefs c.args.place (pos 0)) c.args.factors.now c.args.forms.now c.loop-k.k c.index-forms-k.result _ _ _ _ c.loop-k-test.true c.requires.long
+      (product ∙ ap (λ z. get_or c.args.factors.now c.loop-k.k (pos 0) *ℤ z) at) plus c.loop-k.invariant.rest
       );
   bound = grind (arith, to_z-of_z);
 }
