@@ -6,3 +6,4 @@ mod forms;
 mod ordering;
 mod pieces;
 mod ranges;
+mod space;
