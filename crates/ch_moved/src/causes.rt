@@ -65,7 +65,8 @@ pub fn no_level(space: &Space, numbers: &[i64], level: i64) -> Option<Shape>
     None
 }
 
-fn contains(numbers: &[i64], number: i64) -> bool
+/// Whether the number is one of these.
+pub fn contains(numbers: &[i64], number: i64) -> bool
     ensures { result ≡ list_any (int_eq number) numbers.now }
 {
     for other in numbers {

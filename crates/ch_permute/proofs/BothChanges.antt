@@ -7,7 +7,7 @@ use Rattle.std.proofs.lemmas.Nat.{mul-le}
 use Rattle.std.proofs.Math.Nat.{mul-add}
 use Rattle.std.proofs.lemmas.List.{get_or-take, get_or-set_other, get_or-set_same, get_or_default, length-append, length-map, length-set, length-take-le}
 use Rattle.std.proofs.lemmas.List.FromFn.{get_or-map-range_with_len, length-map-range_with_len}
-use Rattle.std.proofs.lemmas.List.Elements.{All-head, All-map, All-tail}
+use Rattle.std.proofs.lemmas.List.Elements.{All-take}
 use Rattle.ch_affine.specs.Affine.{IsAtMost, IsSmall, dot, form, value}
 use Rattle.ch_affine.specs.Form.{Form}
 use Rattle.ch_affine.specs.Rows.{IsBox, IsSystem, lies_in}
@@ -22,9 +22,9 @@ use Rattle.ch_permute.specs.Lowered.{greater, less, minus_forms, plus}
 use Rattle.ch_permute.specs.Permuted.{picked}
 use Rattle.ch_permute.specs.Raised.{growth}
 use Rattle.ch_permute.specs.Turned.{Turns, origin_range, source, target, turned, turned_boxes, turned_forms}
-use Rattle.ch_permute.proofs.Changing.{Changes}
+use Rattle.ch_permute.proofs.Changing.{Changes, IsOrdered, same_changes}
 use Rattle.ch_permute.proofs.Columns.{column_turned, constants_turned, dot_column_minus, dot_constants_minus, form_at, forms_count, length_unit, same_or_not}
-use Rattle.ch_permute.proofs.Limits.{at_most_at, bounded_product, far_most, far_more, farther, greater_bounded, in_sum, length_substituted, magnitudes, narrow_by, narrow_small, within_greater}
+use Rattle.ch_permute.proofs.Limits.{at_most_at, bounded_product, far_most, far_more, farther, greater_bounded, greater_ordered, in_sum, length_substituted, magnitudes, narrow_by, narrow_small, within_greater}
 use Rattle.ch_permute.proofs.Raising.{lies_set, plus_back, plus_there}
 use Rattle.ch_permute.proofs.Steps.{minus_at, minus_count, minus_other}
 use Rattle.ch_permute.proofs.Turning.{image_turned, length_turned, lies_turned, picked_turned, turned_back}
@@ -86,6 +86,17 @@ module _ (order : List ℤ) (p : Piece) (w : IsWhole p) (turns : Turns p.levels 
     lies = λ xs h.
         subst (λ z. lies_in (turned_boxes (source order) boxes) z ≡ true) (sym (picked_turned order xs))
         (lies_turned (source order) boxes xs (λ k l. let n = boxes_count in let b = turns.below k (omega arith) in omega arith) h);
+    ordered = λ old k d l.
+        let n = length-map-range_with_len (λ k. get_or boxes (source order k) origin_range) 0 (length boxes) in
+        let m = boxes_count in
+        let o : k < length boxes = omega arith in
+        let b = turns.below k (omega arith) in
+        subst IsOrdered (sym (get_or-map-range_with_len (λ k. get_or boxes (source order k) origin_range) 0 (length boxes) k k d o (omega arith)))
+        (All-take IsBox p.levels p.system.boxes old (source order k) origin_range (omega arith)).some;
+    constants = λ k d l.
+        let n = forms_count (target order) p.levels in
+        let o : k < p.levels = omega arith in
+        subst (λ (g : Form). IsAtMost (2 ^ 20) g.constant) (sym (get_or_default gs k d (unit 0 0) l ∙ form_at (target order) p.levels k o)) (omega arith);
     bounded = λ weight c some h. far_all weight c some h;
     narrow = turned_narrow;
   }
@@ -105,6 +116,9 @@ module _ (order : List ℤ) (p : Piece) (w : IsWhole p) (turns : Turns p.levels 
           let b = turns.below k (omega arith) in
           subst (IsBounded (farthest (weight * 1) (c + 1))) (sym (get_or-map-range_with_len (λ k. get_or (take p.levels p.system.boxes) (source order k) origin_range) 0 (length (take p.levels p.system.boxes)) k k d o (omega arith)))
           (bounded_more (farthest weight c) (farthest (weight * 1) (c + 1)) _ (far_more weight c 1 some (omega arith)) (h (source order k) origin_range (omega arith)))
+
+turned_sign : (z : ℤ) → IsAtMost (2 ^ 20) z → IsAtMost (2 ^ 20) (neg_ℤ z)
+turned_sign z s = grind (arith, ints)
 
 module _ (amounts : List ℤ) (amount : ℤ) (level : ℕ) (p : Piece) (w : IsWhole p) (inside : level < p.levels) (around : length amounts ≤ level) (near : IsAtMost (2 ^ 20) amount) where
   range_count : length (take p.levels p.system.boxes) ≡ p.levels
@@ -173,6 +187,33 @@ module _ (amounts : List ℤ) (amount : ℤ) (level : ℕ) (p : Piece) (w : IsWh
             (bounded_more (farthest weight c) (farthest (weight * growth amounts) (c + 1)) _ (far_more weight c (growth amounts) some grown) (h k d (omega arith)))
       ]
 
+  minus_constants : All (λ g. IsAtMost (2 ^ 20) g.constant) (minus_forms (form amounts amount) level p.levels)
+  minus_constants k d l =
+      let fs = minus_forms (form amounts amount) level p.levels in
+      let n = minus_count (form amounts amount) level p.levels in
+      let o : k < p.levels = omega arith in
+      let e = get_or_default fs k d (unit 0 0) l in
+      elim (same_or_not k level) as (λ _. IsAtMost (2 ^ 20) (get_or fs k d).constant) [
+        | inl s ↦
+            subst (λ (g : Form). IsAtMost (2 ^ 20) g.constant) (sym (e ∙ ap (λ j. get_or fs j (unit 0 0)) s ∙ minus_at (form amounts amount) level p.levels inside)) (turned_sign amount near)
+        | inr s ↦ subst (λ (g : Form). IsAtMost (2 ^ 20) g.constant) (sym (e ∙ minus_other (form amounts amount) level p.levels k o s)) (omega arith)
+      ]
+
+  minus_ordered : All IsBox p.system.boxes → All IsOrdered (set (take p.levels p.system.boxes) level
+      (greater (form amounts amount) (take p.levels p.system.boxes) (get_or (take p.levels p.system.boxes) level origin_range)))
+  minus_ordered old k d l =
+      let boxes = take p.levels p.system.boxes in
+      let r = greater (form amounts amount) boxes (get_or boxes level origin_range) in
+      let n = length-set boxes level r in
+      let m = range_count in
+      let each = All-take IsBox p.levels p.system.boxes old in
+      elim (same_or_not k level) as (λ _. IsOrdered (get_or (set boxes level r) k d)) [
+        | inl s ↦
+            subst IsOrdered (sym (ap (λ j. get_or (set boxes level r) j d) s ∙ get_or-set_same boxes level r d (omega arith)))
+            (greater_ordered (form amounts amount) boxes (get_or boxes level origin_range) (omega arith) (λ j e h. (each j e h).some) (each level origin_range (omega arith)).some)
+        | inr s ↦ subst IsOrdered (sym (get_or-set_other boxes level k r d s)) (each k d (omega arith)).some
+      ]
+
   pub raise_changes : Changes (plus (form amounts amount) level) (growth amounts) p (minus_forms (form amounts amount) level p.levels)
       (set (take p.levels p.system.boxes) level (greater (form amounts amount) (take p.levels p.system.boxes) (get_or (take p.levels p.system.boxes) level origin_range)))
   raise_changes = record {
@@ -187,6 +228,25 @@ module _ (amounts : List ℤ) (amount : ℤ) (level : ℕ) (p : Piece) (w : IsWh
         lies_set (take p.levels p.system.boxes) xs level _ _ h
         (within_greater (form amounts amount) (take p.levels p.system.boxes) (get_or (take p.levels p.system.boxes) level origin_range) xs (get_or xs level (pos 0)) (omega arith) h
         (lies_at (take p.levels p.system.boxes) xs level origin_range h (omega arith)));
+    ordered = minus_ordered;
+    constants = minus_constants;
     bounded = minus_bounded;
     narrow = minus_narrow;
   }
+
+-- the same, as the code makes them
+
+pub turned_is : (order : List ℤ) (p : Piece) (gs : List Form) (boxes bs : List Range) (n : ℕ) → IsWhole p → Turns p.levels (source order) (target order) → bs ≡ p.system.boxes → n ≡ p.levels
+    → gs ≡ turned_forms (target order) n → boxes ≡ turned_boxes (source order) (take n bs) → Changes (picked order) 1 p gs boxes
+turned_is order p gs boxes bs n w t s l e f =
+    same_changes (picked order) 1 p (turned_forms (target order) p.levels) gs (turned_boxes (source order) (take p.levels p.system.boxes)) boxes (turn_changes order p w t)
+    (e ∙ ap (turned_forms (target order)) l) (f ∙ ap₂ (λ m z. turned_boxes (source order) (take m z)) l s)
+
+pub raised_is : (amounts : List ℤ) (amount : ℤ) (level : ℕ) (p : Piece) (gs : List Form) (boxes bs : List Range) (n : ℕ) → IsWhole p → level < p.levels → length amounts ≤ level
+    → IsAtMost (2 ^ 20) amount → bs ≡ p.system.boxes → n ≡ p.levels → gs ≡ minus_forms (form amounts amount) level n
+    → boxes ≡ set (take n bs) level (greater (form amounts amount) (take n bs) (get_or (take n bs) level origin_range))
+    → Changes (plus (form amounts amount) level) (growth amounts) p gs boxes
+raised_is amounts amount level p gs boxes bs n w inside around near s l e f =
+    same_changes (plus (form amounts amount) level) (growth amounts) p (minus_forms (form amounts amount) level p.levels) gs _ boxes (raise_changes amounts amount level p w inside around near)
+    (e ∙ ap (minus_forms (form amounts amount) level) l)
+    (f ∙ ap₂ (λ m z. set (take m z) level (greater (form amounts amount) (take m z) (get_or (take m z) level origin_range))) l s)

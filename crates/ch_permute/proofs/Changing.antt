@@ -1,6 +1,7 @@
 -- Pieces over new levels are changed ones, for each of the two changes.
-use Rattle.std.proofs.Common.{◌≡◌, refl, sym, ap, ap₂, ◌∙◌, subst, ℕ, zero, suc, ◌+◌, ◌-◌, ◌*◌, ◌<◌, ◌≤◌, ◌^◌, ℤ, pos, ◌+ℤ◌, ◌≤ℤ◌, neg_ℤ, unsigned_abs, true, List, [], ◌∷◌, ◌++◌, map, length, get_or, set, take, arith}
-use Rattle.std.specs.Bool.{IsTrue}
+use Rattle.std.proofs.Common.{◌≡◌, refl, sym, ap, ap₂, ◌∙◌, subst, ℕ, zero, suc, ◌+◌, ◌-◌, ◌*◌, ◌<◌, ◌≤◌, ◌^◌, ℤ, pos, ◌+ℤ◌, ◌≤ℤ◌, neg_ℤ, unsigned_abs, true, List, [], ◌∷◌, ◌++◌, map, length, get_or, set, take, Result, Ok, Err, arith}
+use Rattle.std.specs.Result.{IfOk}
+use Rattle.std.specs.declared.alloc.AllocError.{AllocError}
 use Rattle.std.specs.List.{All, range_with_len}
 use Rattle.std.proofs.lemmas.Int.{ints}
 use Rattle.std.proofs.lemmas.Nat.{mul-le}
@@ -17,7 +18,7 @@ use Rattle.ch_moved.specs.Reindexed.{IsReindexed}
 use Rattle.ch_moved.specs.Spread.{column, constants}
 use Rattle.ch_moved.specs.Substituted.{image, substituted}
 use Rattle.ch_moved.proofs.Substitutes.{value_spread}
-use Rattle.ch_permute.specs.Changed.{HasRoom, IsChanged}
+use Rattle.ch_permute.specs.Changed.{FitPiece, HasRoom, IsChanged}
 use Rattle.ch_permute.specs.Lowered.{greater, less, minus_forms, plus}
 use Rattle.ch_permute.specs.Permuted.{picked}
 use Rattle.ch_permute.specs.Raised.{growth}
@@ -54,6 +55,10 @@ iterators_put n gs (f ∷ fs) ys e long all =
 lies_of : (p : Piece) (xs : List ℤ) → In xs (instances p) → lies_in (take p.levels p.system.boxes) xs ≡ true
 lies_of p xs i = box_points_lie (take p.levels p.system.boxes) xs (box_points_in (take p.levels p.system.boxes) xs (in_instances p xs i).inside)
 
+-- the range has a number
+abbrev pub IsOrdered : Range → Type 0
+IsOrdered b = b.low ≤ℤ b.high
+
 -- a change of one piece: the forms and the ranges of the new levels, and what they do
 pub record Changes (new : List ℤ → List ℤ) (by : ℕ) (p : Piece) (gs : List Form) (boxes : List Range) : Type 0 where
   pub many : length gs ≡ p.levels
@@ -63,6 +68,8 @@ pub record Changes (new : List ℤ → List ℤ) (by : ℕ) (p : Piece) (gs : Li
   pub back : (ys : List ℤ) → length ys ≡ p.levels → new (image gs ys) ≡ ys
   pub same_length : (xs : List ℤ) → length (new xs) ≡ length xs
   pub lies : (xs : List ℤ) → lies_in (take p.levels p.system.boxes) xs ≡ true → lies_in boxes (new xs) ≡ true
+  pub ordered : All IsBox p.system.boxes → All IsOrdered boxes
+  pub constants : All (λ g. IsAtMost (2 ^ 20) g.constant) gs
   pub bounded : (w c : ℕ) → 1 ≤ w → All (IsBounded (farthest w c)) (take p.levels p.system.boxes) → All (IsBounded (farthest (w * by) (c + 1))) boxes
   pub narrow : (w c : ℕ) (f : Form) → 1 ≤ w → length f.coefs ≡ p.levels → IsNarrow w c f → IsNarrow (w * by) (c + 1) (substituted p.levels gs f)
 
@@ -126,7 +133,7 @@ module _ (new : List ℤ → List ℤ) (by : ℕ) (p q : Piece) (gs : List Form)
   }
 
 -- what the change of variables asks for, where the numbers have room
-module _ (new : List ℤ → List ℤ) (by : ℕ) (p : Piece) (gs : List Form) (boxes : List Range) (h : Changes new by p gs boxes) (w : IsWhole p) (room : HasRoom by p) (grows : 1 ≤ by) where
+module _ (new : List ℤ → List ℤ) (by : ℕ) (p : Piece) (gs : List Form) (boxes : List Range) (h : Changes new by p gs boxes) (w : IsWhole p) (room : HasRoom by p) where
   pub few_variables : length boxes + (p.levels + p.hidden) ≤ 4096
   few_variables =
       let a = h.boxed in
@@ -151,3 +158,31 @@ module _ (new : List ℤ → List ℤ) (by : ℕ) (p : Piece) (gs : List Form) (
       let a = room.few in
       let f = far_most (room.weight * by) (room.commands + 1) room.small (omega arith) in
       record { low = let m = b.low in omega arith; high = let m = b.high in omega arith }
+
+  pub are_boxes : All IsBox p.system.boxes → All IsBox boxes
+  are_boxes old k d l =
+      let b = far_boxes k d l in
+      record { low = let m = b.low in omega arith; high = let m = b.high in omega arith; some = h.ordered old k d l }
+
+  pub near_forms : All (λ g. IsAtMost (2 ^ 59) g.constant) gs
+  near_forms k d l = let b = h.constants k d l in omega arith
+
+  pub fits : All IsBox p.system.boxes → FitPiece p gs boxes
+  fits old = record {
+    levels = room.limited.levels;
+    many = h.many;
+    boxed = h.boxed;
+    long = λ k d l. h.long k d l ∙ sym h.boxed;
+    near = near_forms;
+    ranges = are_boxes old;
+    few = few_variables;
+    origin = origin_small;
+  }
+
+pub changes : (new : List ℤ → List ℤ) (by : ℕ) (p : Piece) (gs : List Form) (boxes : List Range) (r : Result Piece AllocError) → Changes new by p gs boxes → IsWhole p
+    → IfOk r (λ q. IsReindexed p gs boxes [] p.places q) → IfOk r (λ q. IsChanged new by p q)
+changes new by p gs boxes (Ok q) h w i = changed new by p q gs boxes h w i
+changes new by p gs boxes (Err e) h w i = tt
+
+pub same_changes : (new : List ℤ → List ℤ) (by : ℕ) (p : Piece) (gs hs : List Form) (boxes ranges : List Range) → Changes new by p gs boxes → hs ≡ gs → ranges ≡ boxes → Changes new by p hs ranges
+same_changes new by p gs hs boxes ranges h e f = subst (λ z. Changes new by p hs z) (sym f) (subst (λ z. Changes new by p z boxes) (sym e) h)

@@ -7,3 +7,4 @@ pub mod Steps
 pub mod Limits
 pub mod Changing
 pub mod BothChanges
+pub mod Becoming

@@ -21,7 +21,7 @@ use Rattle.ch_nest.specs.Shape.{greatest_sum, greatest_term, least_sum, least_te
 use Rattle.ch_nest.proofs.Corners.{least_le, greatest_ge}
 use Rattle.ch_permute.specs.Lowered.{greater}
 use Rattle.ch_permute.specs.Raised.{growth}
-use Rattle.ch_permute.proofs.Values.{IsWithin}
+use Rattle.ch_permute.proofs.Values.{IsWithin, le_to}
 use Rattle.ch_space.specs.Keeps.{IsBounded, IsNarrow, farthest, most_commands, most_weight}
 
 -- the greatest magnitude of a value
@@ -158,3 +158,14 @@ pub within_greater : (f : Form) (rs : List Range) (r : Range) (xs : List ℤ) (x
 within_greater f rs r xs x l h w =
     let u = least_under f.coefs rs xs l h in
     record { least = let a = w.least in omega (arith, ints, u.0, u.1); most = let a = w.most in omega (arith, ints, u.0, u.1) }
+
+lows_lie : (rs : List Range) → All (λ (b : Range). b.low ≤ℤ b.high) rs → lies_in rs (map (λ (b : Range). b.low) rs) ≡ true
+lows_lie [] h = refl
+lows_lie (r ∷ rs) h =
+    let o = All-head (λ (b : Range). b.low ≤ℤ b.high) r rs h in
+    and_from _ _ (and_from _ _ (le_to r.low r.low (omega (arith, ints))) (le_to r.low r.high o)) (lows_lie rs (All-tail (λ (b : Range). b.low ≤ℤ b.high) r rs h))
+
+pub greater_ordered : (f : Form) (rs : List Range) (r : Range) → length f.coefs ≤ length rs → All (λ (b : Range). b.low ≤ℤ b.high) rs → r.low ≤ℤ r.high → (greater f rs r).low ≤ℤ (greater f rs r).high
+greater_ordered f rs r l h o =
+    let u = least_under f.coefs rs (map (λ (b : Range). b.low) rs) l (lows_lie rs h) in
+    omega (arith, ints, u.0, u.1)

@@ -1,11 +1,17 @@
 -- A piece whose loop values are other ones.
-use Rattle.std.specs.Prelude.{◌≡◌, ℕ, ◌+◌, ◌*◌, ◌<◌, ◌≤◌, ℤ, Bool, true, false, List, [], ◌∷◌, length}
+use Rattle.std.specs.Prelude.{◌≡◌, ℕ, ◌+◌, ◌*◌, ◌<◌, ◌≤◌, ◌^◌, ℤ, Bool, true, false, Option, Some, None, List, [], ◌∷◌, length}
+use Rattle.std.specs.List.{All}
+use Rattle.ch_affine.specs.Affine.{IsAtMost, IsSmall}
+use Rattle.ch_affine.specs.Form.{Form}
+use Rattle.ch_affine.specs.Rows.{IsBox}
+use Rattle.ch_affine.specs.declared.system.Range.{Range}
+use Rattle.ch_moved.specs.Substituted.{substituted}
 use Rattle.ch_space.specs.declared.piece.Piece.{Piece}
-use Rattle.ch_space.specs.Keeps.{IsLimited, IsWhole, most_commands, most_weight, places_of}
+use Rattle.ch_space.specs.Keeps.{IsLimited, IsWhole, most_commands, most_levels, most_weight, places_of}
 use Rattle.ch_space.specs.Pieces.{element_at, instances}
 use Rattle.ch_timed.specs.Closed.{at_vector}
 use Rattle.ch_timed.specs.Members.{In}
-use Rattle.ch_timed.specs.Vectors.{woven}
+use Rattle.ch_timed.specs.Vectors.{shares, woven}
 
 -- The piece q has the elements of p at new loop values, and its numbers are at most `by` times as large.
 pub record IsChanged (new : List ℤ → List ℤ) (by : ℕ) (p q : Piece) : Type 0 where
@@ -42,3 +48,19 @@ AllBecome inside new by [] (q ∷ qs) = ⊥
 AllBecome inside new by (p ∷ ps) [] = ⊥
 AllBecome inside new by (p ∷ ps) (q ∷ qs) =
     Becomes (inside (places_of p)) new by p q × AllBecome inside new by ps qs
+
+-- So many forms over as many new levels, of small numbers and within ranges, may be put into the piece.
+pub record FitPiece (p : Piece) (gs : List Form) (boxes : List Range) : Type 0 where
+  pub levels : p.levels ≤ most_levels
+  pub many : length gs ≡ p.levels
+  pub boxed : length boxes ≡ p.levels
+  pub long : All (λ g. length g.coefs ≡ length boxes) gs
+  pub near : All (λ g. IsAtMost (2 ^ 59) g.constant) gs
+  pub ranges : All IsBox boxes
+  pub few : length boxes + (p.levels + p.hidden) ≤ 4096
+  pub origin : All (λ f. IsSmall (substituted (length boxes) gs f)) p.origin
+
+-- whether the places share that level with ours, where there is one
+abbrev pub in_first : Option ℕ → List ℤ → List ℤ → Bool
+in_first None ours theirs = false
+in_first (Some level) ours theirs = shares level ours theirs

@@ -1,6 +1,9 @@
 //! Loops in another order, skewed loops and shifted loops: the commands that keep the pieces and their places, and change loop values.
 #![tactic(auto)]
 
+mod change;
 mod forms;
 mod ordering;
+mod pieces;
 mod ranges;
+mod space;

@@ -6,16 +6,7 @@ ghost use Rattle.std.specs.Ordering.{int_eq};
 ghost use Rattle.ch_permute.specs.Permuted.{is_permutation, last_from, moving};
 ghost use Rattle.ch_permute.specs.Turned.{place, source, target};
 
-fn contains(numbers: &[i64], number: i64) -> bool
-    ensures { result ≡ list_any (int_eq number) numbers.now }
-{
-    for other in numbers {
-        if number == *other {
-            return true;
-        }
-    }
-    false
-}
+use ch_moved::causes::contains;
 
 /// Whether each level from 1 on is one of the numbers.
 pub(crate) fn is_permutation(order: &[i64]) -> bool

@@ -1,4 +1,4 @@
-use Rattle.std.proofs.Common.{◌≡◌, true, length, pos}
+use Rattle.std.proofs.Common.{◌≡◌, true, pos}
 use Rattle.std.specs.List.{list_all, list_any, range_with_len}
 use Rattle.std.specs.Ordering.{int_eq}
 use Rattle.ch_permute.proofs.ordering.is_permutation.Given as goal

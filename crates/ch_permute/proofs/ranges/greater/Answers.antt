@@ -1,4 +1,4 @@
-use Rattle.std.proofs.Common.{◌<◌, ◌≤◌, ◌^◌, rules, ap, pos, get_or, length, unsigned_abs, SFits, w64, arith}
+use Rattle.std.proofs.Common.{◌<◌, ◌≤◌, ap, pos, get_or, length, unsigned_abs, SFits, w64, arith}
 use Rattle.std.proofs.lemmas.Int.{ints, to_z-of_z}
 use Rattle.ch_affine.specs.declared.system.Range.{Range}
 use Rattle.ch_permute.proofs.Steps.{greater_is, next_greatest, next_least}
