@@ -11,3 +11,5 @@ pub mod Replaced
 pub mod Remade
 pub mod Parting
 pub mod Causing
+pub mod UnitForms
+pub mod Elements

@@ -4,10 +4,12 @@
 
 mod bounds;
 pub mod causes;
+pub mod groups;
 mod reindex;
 #[cfg(test)]
 mod reindex_tests;
 mod substitute;
 mod ties;
+pub mod units;
 
 pub use reindex::reindexed;
