@@ -8,8 +8,10 @@ pub mod groups;
 mod reindex;
 #[cfg(test)]
 mod reindex_tests;
+mod space;
 mod substitute;
 mod ties;
 pub mod units;
 
 pub use reindex::reindexed;
+pub use space::closed_space;

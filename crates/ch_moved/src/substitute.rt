@@ -63,7 +63,7 @@ fn narrowed(number: i128) -> Option<i64>
     Some(number as i64)
 }
 
-pub(crate) fn push_zeros(numbers: &mut List<i64>, count: usize) -> Result<(), AllocError>
+pub fn push_zeros(numbers: &mut List<i64>, count: usize) -> Result<(), AllocError>
     ensures { OnOk result (numbers.new ≡ numbers.old ++ zeros count) }
 {
     for _k in 0..count {

@@ -3,7 +3,7 @@
 ghost use Rattle.std.specs.Prelude.{◌≡◌, ◌+◌, ◌<◌, ◌++◌, IfOk, OnOk};
 ghost use Rattle.ch_space.specs.Built.{unit};
 
-use crate::substitute::push_zeros;
+pub use crate::substitute::push_zeros;
 use ch_affine::{Aff, List};
 use std::alloc::{AllocError, Global};
 

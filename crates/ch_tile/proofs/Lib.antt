@@ -1,0 +1,5 @@
+pub mod Tiles
+pub mod Insertions
+pub mod TiledPieces
+pub mod Tiling
+pub mod TiledPlaces

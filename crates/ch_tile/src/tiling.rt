@@ -1,0 +1,3 @@
+//! Tiling a space.
+
+use ch_space::Space;
