@@ -8,3 +8,4 @@ pub mod Limits
 pub mod Changing
 pub mod BothChanges
 pub mod Becoming
+pub mod Made

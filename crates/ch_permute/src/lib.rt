@@ -4,6 +4,9 @@
 mod change;
 mod forms;
 mod ordering;
+mod permuting;
 mod pieces;
 mod ranges;
 mod space;
+
+pub use permuting::permute;
