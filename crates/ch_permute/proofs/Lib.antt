@@ -9,3 +9,5 @@ pub mod Changing
 pub mod BothChanges
 pub mod Becoming
 pub mod Made
+pub mod Leaving
+pub mod Allowed

@@ -9,6 +9,7 @@ use Rattle.ch_permute.specs.Changed.{AllBecome, Becomes, HasRoom, IsChanged}
 use Rattle.ch_permute.proofs.Limits.{far_more}
 use Rattle.ch_space.specs.declared.piece.Piece.{Piece}
 use Rattle.ch_space.specs.Keeps.{AreApart, IsBounded, IsLimited, IsNarrow, IsSpace, IsWhole, farthest, most_commands, most_weight, places_of}
+use Rattle.ch_space.specs.Listed.{Listed}
 use Rattle.ch_space.specs.Pieces.{element_at, instances, listed}
 use Rattle.ch_space.proofs.PieceElements.{element_places, element_values}
 use Rattle.ch_timed.specs.Closed.{at_vector, closed_up}
@@ -103,3 +104,18 @@ all_room arrays w c by ps counts temps space few light k d l = record {
   small = light;
   few = few;
 }
+
+-- as the code has it: what the space before is seen as, and copies of its parts
+pub makes : (inside : List Element → List ℤ → Bool) (new : List ℤ → List ℤ) (by arrays w c : ℕ) (ps others qs : List Piece) (counts copies : List ℕ) (temps : List (List ℕ)) (l : Listed) → 1 ≤ by
+    → IsSpace arrays ps counts temps w c → record { list = listed ps; arrays = arrays; temps = temps; weight = w; commands = c } ≡ l → l.commands < most_commands → w * by ≤ most_weight
+    → others ≡ ps → copies ≡ counts → AllBecome (inside (listed others)) new by others qs
+    → IsSpace l.arrays qs copies l.temps (w * by) (l.commands + 1) × (closed_up (listed qs) ≡ moved (revalued (inside l.list) new) l.list)
+makes inside new by arrays w c ps others qs counts copies temps l grows space view few light o k h =
+    let a = subst (λ z. AllBecome (inside (listed z)) new by z qs) o h in
+    let e = ap (λ (r : Listed). r.commands) view in
+    let s = made_space (inside (listed ps)) new by arrays w c ps qs counts temps grows space a (omega arith) light in
+    let t = made_list (inside (listed ps)) new by arrays w c ps qs counts temps grows space a in
+    (
+      subst (λ (r : Listed). IsSpace r.arrays qs copies r.temps (w * by) (r.commands + 1)) view (subst (λ z. IsSpace arrays qs z temps (w * by) (c + 1)) (sym k) s),
+      t ∙ ap (λ (r : Listed). moved (revalued (inside r.list) new) r.list) view,
+    )

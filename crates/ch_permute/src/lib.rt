@@ -7,6 +7,8 @@ mod ordering;
 mod permuting;
 mod pieces;
 mod ranges;
+mod skewing;
 mod space;
 
 pub use permuting::permute;
+pub use skewing::{shift, skew};

@@ -1,6 +1,6 @@
 //! The loops of a piece in another order.
 
-ghost use Rattle.std.specs.Prelude.{◌≡◌, ◌+◌, ◌<◌, None, pos, length, map, IfOk, IsTrue};
+ghost use Rattle.std.specs.Prelude.{◌≡◌, ◌+◌, ◌<◌, not, ◌&&◌, None, pos, length, map, IfOk, IsTrue};
 ghost use Rattle.ch_moved.specs.Causes.{first_failing, Answers};
 ghost use Rattle.ch_moved.specs.Arguments.{natural};
 ghost use Rattle.ch_permute.specs.Permuted.{is_permutation, moving, permute_cause, permuted, unshared};
@@ -37,6 +37,16 @@ fn unshared(space: &Space, number: u32, order: &[i64]) -> Option<Shape>
     }
 }
 
+/// Whether the other piece is in the group at level `first`, but doesn't share level `last`.
+fn is_left(space: &Space, number: u32, first: usize, last: usize, other: u32) -> bool
+    requires number { number < length (pieces space.now.list) }
+    requires other { other < length (pieces space.now.list) }
+    ensures { result ≡ (in_group space.now.list number first (piece space.now.list other)
+        && not (in_group space.now.list number last (piece space.now.list other))) }
+{
+    in_group(space, number, first, other) && !in_group(space, number, last, other)
+}
+
 /// The least piece of the group at level `first` that doesn't share level `last`.
 fn unshared_from(space: &Space, number: u32, first: usize, last: usize) -> Option<Shape>
     requires { number < length (pieces space.now.list) }
@@ -45,7 +55,7 @@ fn unshared_from(space: &Space, number: u32, first: usize, last: usize) -> Optio
         (map pos (group space.now.list number first)) }
 {
     for k in 0..pieces(space) {
-        if in_group(space, number, first, k) && !in_group(space, number, last, k) {
+        if is_left(space, number, first, last, k) {
             return Some(Shape {
                 code: 5,
                 number: i128::from(k),
