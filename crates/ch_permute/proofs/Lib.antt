@@ -11,3 +11,4 @@ pub mod Becoming
 pub mod Made
 pub mod Leaving
 pub mod Allowed
+pub mod Unmoved

@@ -3,6 +3,7 @@
 
 mod change;
 mod forms;
+pub mod laws;
 mod ordering;
 mod permuting;
 mod pieces;
