@@ -1,6 +1,6 @@
 //! The causes that several commands share, and the levels of pieces that numbers name.
 
-ghost use Rattle.std.specs.Prelude.{◌≡◌, ◌+◌, ◌*◌, ◌≤◌, ◌^◌, None, IsTrue};
+ghost use Rattle.std.specs.Prelude.{◌≡◌, ◌+◌, ◌*◌, ◌≤◌, ◌^◌, ◌<ℤ◌, None, true, pos, IsTrue};
 ghost use Rattle.std.specs.List.{list_any};
 ghost use Rattle.std.specs.Ordering.{int_eq};
 ghost use Rattle.ch_moved.specs.Arguments.{depth, has_level, is_piece};
@@ -12,7 +12,8 @@ use ch_space::{Space, pieces};
 
 /// Whether it is the number of a piece.
 pub fn is_piece(space: &Space, number: i64) -> bool
-    ensures { result ≡ is_piece space.now.list number }
+    ensures value { result ≡ is_piece space.now.list number }
+    ensures near { result ≡ true → number <ℤ pos (2 ^ 32) }
 {
     0 <= number && number < i64::from(pieces(space))
 }

@@ -8,3 +8,7 @@ pub mod Limits
 pub mod Changing
 pub mod BothChanges
 pub mod Becoming
+pub mod Made
+pub mod Leaving
+pub mod Allowed
+pub mod Unmoved

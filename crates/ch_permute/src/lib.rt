@@ -3,7 +3,13 @@
 
 mod change;
 mod forms;
+pub mod laws;
 mod ordering;
+mod permuting;
 mod pieces;
 mod ranges;
+mod skewing;
 mod space;
+
+pub use permuting::permute;
+pub use skewing::{shift, skew};

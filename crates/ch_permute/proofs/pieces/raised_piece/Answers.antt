@@ -1,4 +1,4 @@
-use Rattle.std.proofs.Common.{ap, ◌∙◌, subst, SFits, w64, arith}
+use Rattle.std.proofs.Common.{ap, ◌∙◌, subst, SFits, w64}
 use Rattle.std.specs.List.{All}
 use Rattle.std.proofs.lemmas.Int.{to_z-of_z}
 use Rattle.ch_affine.specs.Affine.{form}

@@ -1,4 +1,4 @@
-use Rattle.std.proofs.Common.{refl, ap, ◌∙◌, subst, arith}
+use Rattle.std.proofs.Common.{ap, ◌∙◌, subst}
 use Rattle.std.specs.List.{All}
 use Rattle.ch_affine.specs.Rows.{IsBox}
 use Rattle.ch_permute.specs.Permuted.{picked}

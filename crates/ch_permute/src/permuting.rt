@@ -1,0 +1,131 @@
+//! The loops of a piece in another order.
+
+ghost use Rattle.std.specs.Prelude.{◌≡◌, ◌+◌, ◌<◌, not, ◌&&◌, None, pos, length, map, IfOk, IsTrue};
+ghost use Rattle.ch_moved.specs.Causes.{first_failing, Answers};
+ghost use Rattle.ch_moved.specs.Arguments.{natural};
+ghost use Rattle.ch_permute.specs.Permuted.{is_permutation, moving, permute_cause, permuted, unshared};
+ghost use Rattle.ch_space.specs.Members.{group};
+ghost use Rattle.ch_timed.specs.Groups.{in_group, piece};
+ghost use Rattle.ch_timed.specs.Timed.{pieces};
+
+use crate::change::{permuted_pieces, share};
+use crate::ordering::{first_moving, is_permutation, last_moving};
+use crate::space::closed_space;
+use ch_affine::List;
+use ch_moved::causes::{depth, is_piece};
+use ch_nest::Shape;
+use ch_space::{ShapeError, Space, pieces, places};
+use std::alloc::{AllocError, Global};
+
+/// Whether the other piece is in the group of the piece at that level.
+fn in_group(space: &Space, number: u32, level: usize, other: u32) -> bool
+    requires number { number < length (pieces space.now.list) }
+    requires other { other < length (pieces space.now.list) }
+    ensures { result ≡ in_group space.now.list number level (piece space.now.list other) }
+{
+    share(level, places(space, number), places(space, other))
+}
+
+/// The least piece of the group at the first level that moves which doesn't share the last one.
+fn unshared(space: &Space, number: u32, order: &[i64]) -> Option<Shape>
+    requires { number < length (pieces space.now.list) }
+    ensures { result ≡ unshared space.now.list (pos number) (moving 1 order.now) }
+{
+    match first_moving(order) {
+        None => None,
+        Some(first) => unshared_from(space, number, first, last_moving(order, first)),
+    }
+}
+
+/// Whether the other piece is in the group at level `first`, but doesn't share level `last`.
+fn is_left(space: &Space, number: u32, first: usize, last: usize, other: u32) -> bool
+    requires number { number < length (pieces space.now.list) }
+    requires other { other < length (pieces space.now.list) }
+    ensures { result ≡ (in_group space.now.list number first (piece space.now.list other)
+        && not (in_group space.now.list number last (piece space.now.list other))) }
+{
+    in_group(space, number, first, other) && !in_group(space, number, last, other)
+}
+
+/// The least piece of the group at level `first` that doesn't share level `last`.
+fn unshared_from(space: &Space, number: u32, first: usize, last: usize) -> Option<Shape>
+    requires { number < length (pieces space.now.list) }
+    ensures { result ≡ first_failing 5
+        (λ k. in_group space.now.list number last (piece space.now.list (natural k)))
+        (map pos (group space.now.list number first)) }
+{
+    for k in 0..pieces(space) {
+        if is_left(space, number, first, last, k) {
+            return Some(Shape {
+                code: 5,
+                number: i128::from(k),
+            });
+        }
+    }
+    None
+}
+
+/// Why the shape of the program forbids it, the first cause of all.
+fn permute_cause(space: &Space, number: i64, order: &[i64]) -> Option<Shape>
+    ensures { result ≡ permute_cause space.now.list number order.now }
+{
+    if !is_piece(space, number) {
+        return Some(Shape {
+            code: 1,
+            number: i128::from(number),
+        });
+    }
+    if depth(space, number) < order.len() {
+        return Some(Shape {
+            code: 2,
+            number: order.len() as i128,
+        });
+    }
+    if !is_permutation(order) {
+        return Some(Shape { code: 3, number: 0 });
+    }
+    unshared(space, number as u32, order)
+}
+
+/// The space, where nothing forbids the command.
+fn permuted(
+    alloc: Global,
+    space: &Space,
+    number: i64,
+    order: &[i64],
+) -> Result<Space, AllocError>
+    requires few { space.now.commands < 32 }
+    requires cause { permute_cause space.now.list number order.now ≡ None }
+    ensures list { IfOk result (λ new. new.list ≡ permuted space.now.list number order.now) }
+    ensures arrays { IfOk result (λ new. new.arrays ≡ space.now.arrays) }
+    ensures temps { IfOk result (λ new. new.temps ≡ space.now.temps) }
+    ensures weight { IfOk result (λ new. new.weight ≡ space.now.weight) }
+    ensures commands { IfOk result (λ new. new.commands ≡ space.now.commands + 1) }
+{
+    let pieces = permuted_pieces(alloc, space.pieces.as_slice(), number as usize, order)?;
+    let counts = List::from_slice(alloc, space.counts.as_slice())?;
+    closed_space(alloc, space, pieces, counts, space.weight)
+}
+
+/// The space with the loops around a piece in another order: the new loop of each level is the one that the order names. Pieces
+/// that share the first loop which another one replaces change with it. It is not tested whether the program means the same.
+pub fn permute(
+    alloc: Global,
+    space: &Space,
+    piece: i64,
+    order: &[i64],
+) -> Result<Space, ShapeError>
+    requires few { space.now.commands < 32 }
+    ensures cause { Answers result (permute_cause space.now.list piece order.now) }
+    ensures list { IfOk result (λ new. new.list ≡ permuted space.now.list piece order.now) }
+    ensures arrays { IfOk result (λ new. new.arrays ≡ space.now.arrays) }
+    ensures temps { IfOk result (λ new. new.temps ≡ space.now.temps) }
+    ensures weight { IfOk result (λ new. new.weight ≡ space.now.weight) }
+    ensures commands { IfOk result (λ new. new.commands ≡ space.now.commands + 1) }
+{
+    if let Some(shape) = permute_cause(space, piece, order) {
+        return Err(ShapeError::Shape(shape));
+    }
+    let new = permuted(alloc, space, piece, order)?;
+    Ok(new)
+}
