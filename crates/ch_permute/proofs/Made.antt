@@ -1,10 +1,13 @@
 -- Pieces of which some changed make a space, which stands for the moved list.
-use Rattle.std.proofs.Common.{◌≡◌, refl, sym, ap, ap₂, ◌∙◌, subst, ℕ, suc, ◌+◌, ◌*◌, ◌<◌, ◌≤◌, ◌^◌, ℤ, pos, Bool, true, false, cond, List, [], ◌∷◌, map, length, get_or, arith}
+use Rattle.std.proofs.Common.{◌≡◌, refl, sym, ap, ap₂, ◌∙◌, subst, ℕ, suc, ◌+◌, ◌*◌, ◌<◌, ◌≤◌, ◌^◌, ℤ, pos, Bool, true, false, cond, List, [], ◌∷◌, map, length, get_or, arith, Result, Ok, Err, IfOk}
 use Rattle.std.specs.List.{All}
+use Rattle.std.specs.declared.alloc.AllocError.{AllocError}
 use Rattle.std.proofs.lemmas.Nat.{mul-le}
 use Rattle.std.proofs.lemmas.List.Elements.{All-head, All-tail}
 use Rattle.ch_moved.specs.Moved.{moved, revalued}
-use Rattle.ch_moved.proofs.Remade.{AllRemade, IsRemade, remade_list, remade_space}
+use Rattle.ch_moved.proofs.Remade.{AllRemade, IsRemade, among_remade, remade_among, remade_list, remade_space}
+use Rattle.ch_moved.proofs.Taken.{among_closed, closed_among}
+use Rattle.ch_order.specs.Legal.{AreAmong}
 use Rattle.ch_permute.specs.Changed.{AllBecome, Becomes, HasRoom, IsChanged}
 use Rattle.ch_permute.proofs.Limits.{far_more}
 use Rattle.ch_space.specs.declared.piece.Piece.{Piece}
@@ -14,7 +17,7 @@ use Rattle.ch_space.specs.Pieces.{element_at, instances, listed}
 use Rattle.ch_space.proofs.PieceElements.{element_places, element_values}
 use Rattle.ch_timed.specs.Closed.{at_vector, closed_up}
 use Rattle.ch_timed.specs.Members.{In}
-use Rattle.ch_timed.specs.Timed.{in_order, step}
+use Rattle.ch_timed.specs.Timed.{in_order, is_well_formed, step}
 use Rattle.ch_timed.specs.Vectors.{places, values, woven}
 use Rattle.ch_timed.specs.declared.element.Element.{Element}
 
@@ -95,6 +98,22 @@ module _ (inside : List ℤ → Bool) (new : List ℤ → List ℤ) (by arrays w
   made_list =
       ap closed_up (remade_list (revalued inside new) (w * by) (c + 1) ps qs space.apart (all_remade inside new by w c space.some_weight grows ps qs space.apart space.limited h))
 
+  made_fine : c < most_commands → w * by ≤ most_weight → is_well_formed (listed qs) ≡ true
+  made_fine few light = (made_space few light).well_formed
+
+  -- the same steps are executed
+  pub made_among : c < most_commands → w * by ≤ most_weight → AreAmong (listed ps) (closed_up (listed qs))
+  made_among few light =
+      among_closed (listed ps) (listed qs) (made_fine few light)
+      (remade_among (revalued inside new) (keeps_steps inside new) (w * by) (c + 1) arrays ps qs counts temps w c space
+      (all_remade inside new by w c space.some_weight grows ps qs space.apart space.limited h))
+
+  pub among_made : c < most_commands → w * by ≤ most_weight → AreAmong (closed_up (listed qs)) (listed ps)
+  among_made few light =
+      closed_among (listed qs) (listed ps) (made_fine few light)
+      (among_remade (revalued inside new) (keeps_steps inside new) (w * by) (c + 1) arrays ps qs counts temps w c space
+      (all_remade inside new by w c space.some_weight grows ps qs space.apart space.limited h))
+
 pub all_room : (arrays w c by : ℕ) (ps : List Piece) (counts : List ℕ) (temps : List (List ℕ)) → IsSpace arrays ps counts temps w c → c < most_commands → w * by ≤ most_weight → All (HasRoom by) ps
 all_room arrays w c by ps counts temps space few light k d l = record {
   weight = w;
@@ -110,6 +129,7 @@ pub makes : (inside : List Element → List ℤ → Bool) (new : List ℤ → Li
     → IsSpace arrays ps counts temps w c → record { list = listed ps; arrays = arrays; temps = temps; weight = w; commands = c } ≡ l → l.commands < most_commands → w * by ≤ most_weight
     → others ≡ ps → copies ≡ counts → AllBecome (inside (listed others)) new by others qs
     → IsSpace l.arrays qs copies l.temps (w * by) (l.commands + 1) × (closed_up (listed qs) ≡ moved (revalued (inside l.list) new) l.list)
+    × AreAmong l.list (closed_up (listed qs)) × AreAmong (closed_up (listed qs)) l.list
 makes inside new by arrays w c ps others qs counts copies temps l grows space view few light o k h =
     let a = subst (λ z. AllBecome (inside (listed z)) new by z qs) o h in
     let e = ap (λ (r : Listed). r.commands) view in
@@ -118,4 +138,11 @@ makes inside new by arrays w c ps others qs counts copies temps l grows space vi
     (
       subst (λ (r : Listed). IsSpace r.arrays qs copies r.temps (w * by) (r.commands + 1)) view (subst (λ z. IsSpace arrays qs z temps (w * by) (c + 1)) (sym k) s),
       t ∙ ap (λ (r : Listed). moved (revalued (inside r.list) new) r.list) view,
+      subst (λ (r : Listed). AreAmong r.list (closed_up (listed qs))) view (made_among (inside (listed ps)) new by arrays w c ps qs counts temps grows space a (omega arith) light),
+      subst (λ (r : Listed). AreAmong (closed_up (listed qs)) r.list) view (among_made (inside (listed ps)) new by arrays w c ps qs counts temps grows space a (omega arith) light),
     )
+
+-- what holds of the closed up list holds of the list of the space
+pub kept_in : (r : Result Listed AllocError) (list : List Element) (P : List Element → Type 0) → IfOk r (λ new. new.list ≡ closed_up list) → P (closed_up list) → IfOk r (λ new. P new.list)
+kept_in (Ok new) list P e h = subst P (sym e) h
+kept_in (Err x) list P e h = tt

@@ -12,24 +12,14 @@ ghost use Rattle.ch_permute.specs.Raised.{growth};
 ghost use Rattle.ch_permute.specs.Turned.{source, target, Turns};
 ghost use Rattle.ch_space.specs.Keeps.{AreApart, IsWhole};
 ghost use Rattle.ch_space.specs.Pieces.{listed};
-ghost use Rattle.ch_timed.specs.Vectors.{shares};
 
 use crate::ordering::first_moving;
-use crate::pieces::{copied_piece, raised_piece, turned_piece};
+use crate::pieces::{raised_piece, turned_piece};
 use ch_affine::List;
 use ch_moved::causes::contains;
+use ch_moved::groups::{copied_piece, share};
 use ch_space::Piece;
 use std::alloc::{AllocError, Global};
-
-/// Whether both places have that level, and begin alike up to it.
-pub(crate) fn share(level: usize, ours: &[u32], theirs: &[u32]) -> bool
-    ensures { result ≡ shares level (map pos ours.now) (map pos theirs.now) }
-{
-    if ours.len() <= level || theirs.len() <= level {
-        return false;
-    }
-    ours[..level] == theirs[..level]
-}
 
 /// Whether these places are in the group of our piece at the first level that moves, if any does.
 fn moves(first: Option<usize>, ours: &[u32], theirs: &[u32]) -> bool

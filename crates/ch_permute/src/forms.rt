@@ -10,35 +10,8 @@ ghost use Rattle.ch_space.specs.Built.{unit, zeros};
 
 use crate::ordering::target;
 use ch_affine::{Aff, List};
+use ch_moved::units::{push_unit, unit};
 use std::alloc::{AllocError, Global};
-
-fn push_zeros(numbers: &mut List<i64>, count: usize) -> Result<(), AllocError>
-    ensures { OnOk result (numbers.new ≡ numbers.old ++ zeros count) }
-{
-    for _k in 0..count {
-        numbers.push(0)?;
-    }
-    Ok(())
-}
-
-/// The coefficient 1 behind so many zeros and before others.
-fn push_unit(numbers: &mut List<i64>, before: usize, after: usize) -> Result<(), AllocError>
-    ensures { OnOk result (numbers.new ≡ numbers.old ++ (unit before after).coefs) }
-{
-    push_zeros(numbers, before)?;
-    numbers.push(1)?;
-    push_zeros(numbers, after)
-}
-
-/// The form of one variable.
-fn unit(alloc: Global, before: usize, after: usize) -> Result<Aff, AllocError>
-    requires { before + after < 4096 }
-    ensures { IfOk result (λ form. form ≡ unit before after) }
-{
-    let mut coefs = List::new(alloc);
-    push_unit(&mut coefs, before, after)?;
-    Ok(Aff { coefs, constant: 0 })
-}
 
 fn push_negatives(numbers: &mut List<i64>, amounts: &[i64]) -> Result<(), AllocError>
     requires small { All (IsAtMost (2 ^ 59)) amounts.now }

@@ -9,7 +9,6 @@ mod permuting;
 mod pieces;
 mod ranges;
 mod skewing;
-mod space;
 
 pub use permuting::permute;
 pub use skewing::{shift, skew};

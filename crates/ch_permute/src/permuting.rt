@@ -4,15 +4,17 @@ ghost use Rattle.std.specs.Prelude.{◌≡◌, ◌+◌, ◌<◌, not, ◌&&◌, 
 ghost use Rattle.ch_moved.specs.Causes.{first_failing, Answers};
 ghost use Rattle.ch_moved.specs.Arguments.{natural};
 ghost use Rattle.ch_permute.specs.Permuted.{is_permutation, moving, permute_cause, permuted, unshared};
+ghost use Rattle.ch_order.specs.Legal.{AreAmong};
 ghost use Rattle.ch_space.specs.Members.{group};
 ghost use Rattle.ch_timed.specs.Groups.{in_group, piece};
 ghost use Rattle.ch_timed.specs.Timed.{pieces};
 
-use crate::change::{permuted_pieces, share};
+use crate::change::permuted_pieces;
 use crate::ordering::{first_moving, is_permutation, last_moving};
-use crate::space::closed_space;
 use ch_affine::List;
 use ch_moved::causes::{depth, is_piece};
+use ch_moved::closed_space;
+use ch_moved::groups::share;
 use ch_nest::Shape;
 use ch_space::{ShapeError, Space, pieces, places};
 use std::alloc::{AllocError, Global};
@@ -97,6 +99,8 @@ fn permuted(
     requires few { space.now.commands < 32 }
     requires cause { permute_cause space.now.list number order.now ≡ None }
     ensures list { IfOk result (λ new. new.list ≡ permuted space.now.list number order.now) }
+    ensures kept { IfOk result (λ new. AreAmong space.now.list new.list) }
+    ensures no_others { IfOk result (λ new. AreAmong new.list space.now.list) }
     ensures arrays { IfOk result (λ new. new.arrays ≡ space.now.arrays) }
     ensures temps { IfOk result (λ new. new.temps ≡ space.now.temps) }
     ensures weight { IfOk result (λ new. new.weight ≡ space.now.weight) }
@@ -118,6 +122,8 @@ pub fn permute(
     requires few { space.now.commands < 32 }
     ensures cause { Answers result (permute_cause space.now.list piece order.now) }
     ensures list { IfOk result (λ new. new.list ≡ permuted space.now.list piece order.now) }
+    ensures kept { IfOk result (λ new. AreAmong space.now.list new.list) }
+    ensures no_others { IfOk result (λ new. AreAmong new.list space.now.list) }
     ensures arrays { IfOk result (λ new. new.arrays ≡ space.now.arrays) }
     ensures temps { IfOk result (λ new. new.temps ≡ space.now.temps) }
     ensures weight { IfOk result (λ new. new.weight ≡ space.now.weight) }

@@ -16,23 +16,7 @@ use crate::ranges::{greater_boxes, turned_boxes};
 use ch_affine::{Aff, List, Range};
 use ch_moved::reindexed;
 use ch_space::Piece;
-use ch_space::copies::{copied_body, copied_forms, copied_system};
 use std::alloc::{AllocError, Global};
-
-/// A piece of its own with the same elements.
-pub(crate) fn copied_piece(alloc: Global, piece: &Piece) -> Result<Piece, AllocError>
-    ensures { IfOk result (λ copy. copy ≡ piece.now) }
-{
-    Ok(Piece {
-        label: piece.label,
-        body: copied_body(alloc, &piece.body)?,
-        levels: piece.levels,
-        hidden: piece.hidden,
-        system: copied_system(alloc, &piece.system)?,
-        origin: copied_forms(alloc, piece.origin.as_slice())?,
-        places: List::from_slice(alloc, piece.places.as_slice())?,
-    })
-}
 
 /// The piece over new levels within these ranges, from which the forms give the old ones.
 fn with_levels(

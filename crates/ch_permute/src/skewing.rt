@@ -8,12 +8,13 @@ ghost use Rattle.ch_moved.specs.Causes.{first_failing, no_level, no_piece, Answe
 ghost use Rattle.ch_moved.specs.Moved.{moved, revalued};
 ghost use Rattle.ch_permute.specs.Lowered.{plus};
 ghost use Rattle.ch_permute.specs.Raised.{growth, shift_cause, shifted, skew_cause, skewed, wrong_count};
+ghost use Rattle.ch_order.specs.Legal.{AreAmong};
 ghost use Rattle.ch_space.specs.Keeps.{most_weight};
 
 use crate::change::raised_pieces;
-use crate::space::closed_space;
 use ch_affine::List;
 use ch_moved::causes::{named_twice, no_level, no_piece, too_heavy};
+use ch_moved::closed_space;
 use ch_nest::Shape;
 use ch_space::{ShapeError, Space};
 use std::alloc::{AllocError, Global};
@@ -118,6 +119,8 @@ fn raised(
     requires light { weight ≤ most_weight }
     ensures list { IfOk result (λ new. new.list ≡ moved (revalued (is_named space.now.list numbers.now)
         (plus (form amounts.now amount) (natural level - 1))) space.now.list) }
+    ensures kept { IfOk result (λ new. AreAmong space.now.list new.list) }
+    ensures no_others { IfOk result (λ new. AreAmong new.list space.now.list) }
     ensures arrays { IfOk result (λ new. new.arrays ≡ space.now.arrays) }
     ensures temps { IfOk result (λ new. new.temps ≡ space.now.temps) }
     ensures weight { IfOk result (λ new. new.weight ≡ weight) }
@@ -142,6 +145,8 @@ pub fn skew(
     ensures cause { Answers result
         (skew_cause space.now.list space.now.weight pieces.now level amounts.now) }
     ensures list { IfOk result (λ new. new.list ≡ skewed space.now.list pieces.now level amounts.now) }
+    ensures kept { IfOk result (λ new. AreAmong space.now.list new.list) }
+    ensures no_others { IfOk result (λ new. AreAmong new.list space.now.list) }
     ensures arrays { IfOk result (λ new. new.arrays ≡ space.now.arrays) }
     ensures temps { IfOk result (λ new. new.temps ≡ space.now.temps) }
     ensures weight { IfOk result (λ new. new.weight ≡ space.now.weight * growth amounts.now) }
@@ -167,6 +172,8 @@ pub fn shift(
     requires few { space.now.commands < 32 }
     ensures cause { Answers result (shift_cause space.now.list pieces.now level amount) }
     ensures list { IfOk result (λ new. new.list ≡ shifted space.now.list pieces.now level amount) }
+    ensures kept { IfOk result (λ new. AreAmong space.now.list new.list) }
+    ensures no_others { IfOk result (λ new. AreAmong new.list space.now.list) }
     ensures arrays { IfOk result (λ new. new.arrays ≡ space.now.arrays) }
     ensures temps { IfOk result (λ new. new.temps ≡ space.now.temps) }
     ensures weight { IfOk result (λ new. new.weight ≡ space.now.weight) }

@@ -4,7 +4,9 @@ use Rattle.std.proofs.lemmas.Int.{to_z-of_z}
 use Rattle.ch_moved.proofs.Causing.{piece_number}
 use Rattle.ch_permute.specs.Permuted.{in_moving, moving, permuted, picked}
 use Rattle.ch_permute.proofs.Allowed.{may_permute}
-use Rattle.ch_permute.proofs.Made.{makes}
+use Rattle.ch_order.specs.Legal.{AreAmong}
+use Rattle.ch_permute.proofs.Made.{kept_in, makes}
+use Rattle.ch_space.specs.Pieces.{listed}
 use Rattle.ch_space.specs.Keeps.{IsSpace}
 use Rattle.ch_space.specs.Listed.{Listed}
 use Rattle.ch_space.proofs.Readings.{below_pieces}
@@ -40,3 +42,27 @@ returns-clause-list c =
         c.space.inside.pieces c.as_slice.result.now c.in_ok-pieces.pieces c.space.inside.counts c.in_ok-counts.counts c.space.inside.temps c.args.space.now (omega arith) c.space.invariant
         c.space.view_is c.requires.few (omega arith) c.as_slice.ensures (c.in_ok-counts.ensures ∙ c.as_slice-2.ensures) h in
     subst (λ z. IfOk c.closed_space.result (λ new. new.list ≡ z)) (m.1 ∙ ap (λ z. permuted c.args.space.now.list z c.args.order.now) (sym s)) c.closed_space.ensures.list
+
+pub returns-clause-kept : goal.returns-clause-kept
+returns-clause-kept c =
+    let f : SFits w64 c.args.number = c.ranges.number in
+    let s = (piece_number c.args.space.now.list c.args.number (may_permute c.args.space.now.list c.args.number c.args.order.now c.requires.cause).piece).2 in
+    let h = simp to_z-of_z at c.in_ok-pieces.ensures in
+    let light = c.space.invariant.small_weight in
+    let m =
+        makes (λ list. in_moving list (pos (unsigned_abs c.args.number)) (moving 1 c.args.order.now)) (picked c.args.order.now) 1 c.space.inside.arrays c.space.inside.weight c.space.inside.commands
+        c.space.inside.pieces c.as_slice.result.now c.in_ok-pieces.pieces c.space.inside.counts c.in_ok-counts.counts c.space.inside.temps c.args.space.now (omega arith) c.space.invariant
+        c.space.view_is c.requires.few (omega arith) c.as_slice.ensures (c.in_ok-counts.ensures ∙ c.as_slice-2.ensures) h in
+    kept_in c.closed_space.result (listed c.in_ok-pieces.pieces) (λ z. AreAmong c.args.space.now.list z) c.closed_space.ensures.list m.2
+
+pub returns-clause-no_others : goal.returns-clause-no_others
+returns-clause-no_others c =
+    let f : SFits w64 c.args.number = c.ranges.number in
+    let s = (piece_number c.args.space.now.list c.args.number (may_permute c.args.space.now.list c.args.number c.args.order.now c.requires.cause).piece).2 in
+    let h = simp to_z-of_z at c.in_ok-pieces.ensures in
+    let light = c.space.invariant.small_weight in
+    let m =
+        makes (λ list. in_moving list (pos (unsigned_abs c.args.number)) (moving 1 c.args.order.now)) (picked c.args.order.now) 1 c.space.inside.arrays c.space.inside.weight c.space.inside.commands
+        c.space.inside.pieces c.as_slice.result.now c.in_ok-pieces.pieces c.space.inside.counts c.in_ok-counts.counts c.space.inside.temps c.args.space.now (omega arith) c.space.invariant
+        c.space.view_is c.requires.few (omega arith) c.as_slice.ensures (c.in_ok-counts.ensures ∙ c.as_slice-2.ensures) h in
+    kept_in c.closed_space.result (listed c.in_ok-pieces.pieces) (λ z. AreAmong z c.args.space.now.list) c.closed_space.ensures.list m.3
