@@ -3,7 +3,7 @@
 ghost use Rattle.std.specs.Prelude.{◌≡◌, ◌+◌, ◌*◌, ◌≤◌, ◌^◌, ◌<ℤ◌, None, true, pos, IsTrue};
 ghost use Rattle.std.specs.List.{list_any};
 ghost use Rattle.std.specs.Ordering.{int_eq};
-ghost use Rattle.ch_moved.specs.Arguments.{depth, has_level, is_piece};
+ghost use Rattle.ch_moved.specs.Arguments.{depth, has_level, is_piece, natural};
 ghost use Rattle.ch_moved.specs.Causes.{cause, has_twice, named_twice, no_level, no_piece, too_heavy};
 ghost use Rattle.ch_space.specs.Keeps.{most_weight};
 
@@ -16,6 +16,16 @@ pub fn is_piece(space: &Space, number: i64) -> bool
     ensures near { result ≡ true → number <ℤ pos (2 ^ 32) }
 {
     0 <= number && number < i64::from(pieces(space))
+}
+
+/// The number of a piece as one of those that start at 0.
+pub fn index(space: &Space, number: i64) -> u32
+    requires { IsTrue (is_piece space.now.list number) }
+    ensures { result ≡ natural number }
+{
+    // A space has at most 256 pieces, as a look at its parts tells.
+    let _ = space.pieces.len();
+    number as u32
 }
 
 /// How many levels the piece of that number has.
