@@ -9,6 +9,7 @@ use Rattle.ch_moved.specs.Substituted.{image, substituted}
 use Rattle.ch_poly.specs.Points.{begins_some, box_points}
 use Rattle.ch_timed.specs.Members.{In}
 
+-- each form has so many coefficients
 abbrev pub AllLong : ℕ → List Form → Type 0
 AllLong n = All (λ f. length f.coefs ≡ n)
 

@@ -9,6 +9,7 @@ use Rattle.ch_space.specs.Built.{zeros}
 abbrev pub column : ℕ → List Form → List ℤ
 column place gs = map (λ g. slice_index_or g.coefs place (pos 0)) gs
 
+-- the constants of the forms
 abbrev pub constants : List Form → List ℤ
 constants gs = map (λ g. g.constant) gs
 
