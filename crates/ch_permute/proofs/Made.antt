@@ -1,20 +1,20 @@
 -- Pieces of which some changed make a space, which stands for the moved list.
-use Rattle.std.proofs.Common.{◌≡◌, refl, sym, ap, ap₂, ◌∙◌, subst, ℕ, suc, ◌+◌, ◌*◌, ◌<◌, ◌≤◌, ◌^◌, ℤ, pos, Bool, true, false, cond, List, [], ◌∷◌, map, length, get_or, arith}
+use Rattle.std.proofs.Common.{◌≡◌, refl, sym, ap, ap₂, ◌∙◌, subst, ℕ, ◌+◌, ◌*◌, ◌<◌, ◌≤◌, ℤ, Bool, true, false, cond, List, [], ◌∷◌, arith}
 use Rattle.std.specs.List.{All}
 use Rattle.std.proofs.lemmas.Nat.{mul-le}
 use Rattle.std.proofs.lemmas.List.Elements.{All-head, All-tail}
 use Rattle.ch_moved.specs.Moved.{moved, revalued}
 use Rattle.ch_moved.proofs.Remade.{AllRemade, IsRemade, remade_list, remade_space}
-use Rattle.ch_permute.specs.Changed.{AllBecome, Becomes, HasRoom, IsChanged}
+use Rattle.ch_permute.specs.Changed.{AllBecome, Becomes, HasRoom}
 use Rattle.ch_permute.proofs.Limits.{far_more}
 use Rattle.ch_space.specs.declared.piece.Piece.{Piece}
-use Rattle.ch_space.specs.Keeps.{AreApart, IsBounded, IsLimited, IsNarrow, IsSpace, IsWhole, farthest, most_commands, most_weight, places_of}
+use Rattle.ch_space.specs.Keeps.{AreApart, IsLimited, IsSpace, IsWhole, most_commands, most_weight, places_of}
 use Rattle.ch_space.specs.Listed.{Listed}
 use Rattle.ch_space.specs.Pieces.{element_at, instances, listed}
 use Rattle.ch_space.proofs.PieceElements.{element_places, element_values}
 use Rattle.ch_timed.specs.Closed.{at_vector, closed_up}
 use Rattle.ch_timed.specs.Members.{In}
-use Rattle.ch_timed.specs.Timed.{in_order, step}
+use Rattle.ch_timed.specs.Timed.{step}
 use Rattle.ch_timed.specs.Vectors.{places, values, woven}
 use Rattle.ch_timed.specs.declared.element.Element.{Element}
 

@@ -1,12 +1,12 @@
 -- An order of levels is a permutation: what it takes from each place, and where each comes to.
-use Rattle.std.proofs.Common.{◌≡◌, ◌≢◌, refl, sym, ap, ◌∙◌, subst, ℕ, zero, suc, ◌+◌, ◌-◌, ◌<◌, ◌≤◌, ℤ, pos, negsuc, Bool, true, false, List, [], ◌∷◌, length, get_or, ◌⊎◌, inl, inr, ltb, int_eq, arith}
+use Rattle.std.proofs.Common.{◌≡◌, refl, sym, ap, ◌∙◌, subst, ℕ, zero, suc, ◌+◌, ◌-◌, ◌<◌, ◌≤◌, ℤ, pos, negsuc, Bool, true, false, List, [], ◌∷◌, length, get_or, ◌⊎◌, inl, inr, ltb, int_eq, arith}
 use Rattle.std.specs.List.{list_all, list_any, range_with_len}
 use Rattle.std.proofs.lemmas.Int.{ints}
-use Rattle.std.proofs.lemmas.Bool.{both_ways, and_parts, or_cases, or_left, or_right, cases_lt}
+use Rattle.std.proofs.lemmas.Bool.{both_ways, and_parts, or_cases, cases_lt}
 use Rattle.ch_timed.specs.Members.{In}
 use Rattle.ch_moved.specs.Arguments.{natural}
 use Rattle.ch_permute.specs.Permuted.{is_permutation, last_from, moving}
-use Rattle.ch_permute.specs.Turned.{Turns, place, source, source_by, target, target_by}
+use Rattle.ch_permute.specs.Turned.{Turns, place, source, target}
 
 -- the numbers without the one at a place
 without : ℕ → List ℤ → List ℤ

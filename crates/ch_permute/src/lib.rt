@@ -10,6 +10,8 @@ mod pieces;
 mod ranges;
 mod skewing;
 mod space;
+#[cfg(test)]
+mod tests;
 
 pub use permuting::permute;
 pub use skewing::{shift, skew};

@@ -1,4 +1,4 @@
-use Rattle.std.proofs.Common.{◌≡◌, ◌<◌, ap, ◌∙◌, sym, subst, pos, ◌-◌, ◌*◌, ◌+◌, ◌≤◌, ℕ, length, unsigned_abs, SFits, w64, arith}
+use Rattle.std.proofs.Common.{◌≡◌, ap, ◌∙◌, sym, subst, ◌-◌, ◌*◌, ◌+◌, ℕ, SFits, w64, arith}
 use Rattle.std.specs.Result.{IfOk}
 use Rattle.std.proofs.lemmas.Int.{to_z-of_z}
 use Rattle.ch_affine.specs.Affine.{form}
