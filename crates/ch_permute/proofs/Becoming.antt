@@ -60,9 +60,9 @@ same_number : (ps : List Piece) (j k : ℕ) (d : Piece) → AreApart ps → j < 
 same_number ps j k d a l h e = elim (cases_lt j k) [
   | inl m ↦ absurd (never _ _ (apart_less ps j k d a m h) e)
   | inr m ↦ elim (cases_lt k j) [
-      | inl n ↦ absurd (never _ _ (apart_less ps k j d a n l) (sym e))
-      | inr n ↦ omega arith
-    ]
+    | inl n ↦ absurd (never _ _ (apart_less ps k j d a n l) (sym e))
+    | inr n ↦ omega arith
+  ]
 ]
 
 -- the pieces that numbers name

@@ -114,8 +114,7 @@ makes inside new by arrays w c ps others qs counts copies temps l grows space vi
     let a = subst (λ z. AllBecome (inside (listed z)) new by z qs) o h in
     let e = ap (λ (r : Listed). r.commands) view in
     let s = made_space (inside (listed ps)) new by arrays w c ps qs counts temps grows space a (omega arith) light in
-    let t = made_list (inside (listed ps)) new by arrays w c ps qs counts temps grows space a in
-    (
+    let t = made_list (inside (listed ps)) new by arrays w c ps qs counts temps grows space a in (
       subst (λ (r : Listed). IsSpace r.arrays qs copies r.temps (w * by) (r.commands + 1)) view (subst (λ z. IsSpace arrays qs z temps (w * by) (c + 1)) (sym k) s),
       t ∙ ap (λ (r : Listed). moved (revalued (inside r.list) new) r.list) view,
     )

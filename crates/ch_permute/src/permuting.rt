@@ -88,12 +88,7 @@ fn permute_cause(space: &Space, number: i64, order: &[i64]) -> Option<Shape>
 }
 
 /// The space, where nothing forbids the command.
-fn permuted(
-    alloc: Global,
-    space: &Space,
-    number: i64,
-    order: &[i64],
-) -> Result<Space, AllocError>
+fn permuted(alloc: Global, space: &Space, number: i64, order: &[i64]) -> Result<Space, AllocError>
     requires few { space.now.commands < 32 }
     requires cause { permute_cause space.now.list number order.now ≡ None }
     ensures list { IfOk result (λ new. new.list ≡ permuted space.now.list number order.now) }
@@ -109,12 +104,7 @@ fn permuted(
 
 /// The space with the loops around a piece in another order: the new loop of each level is the one that the order names. Pieces
 /// that share the first loop which another one replaces change with it. It is not tested whether the program means the same.
-pub fn permute(
-    alloc: Global,
-    space: &Space,
-    piece: i64,
-    order: &[i64],
-) -> Result<Space, ShapeError>
+pub fn permute(alloc: Global, space: &Space, piece: i64, order: &[i64]) -> Result<Space, ShapeError>
     requires few { space.now.commands < 32 }
     ensures cause { Answers result (permute_cause space.now.list piece order.now) }
     ensures list { IfOk result (λ new. new.list ≡ permuted space.now.list piece order.now) }

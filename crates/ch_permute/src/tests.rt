@@ -125,9 +125,15 @@ fn loops_are_skewed_and_shifted(rt: HostRuntime) -> Result<(), Fail> {
     let space = square(alloc)?;
     let skewed = skew(alloc, &space, &[0], 2, &[-3])?;
     assert_eq!(rt; skewed.weight, 4);
-    assert_eq!(rt; next_vector(&skewed, &[])?.as_slice(), [0, 1, 0, -3, 0].as_slice());
+    assert_eq!(rt;
+        next_vector(&skewed, &[])?.as_slice(),
+        [0, 1, 0, -3, 0].as_slice()
+    );
     let shifted = shift(alloc, &skewed, &[0], 1, 5)?;
-    assert_eq!(rt; next_vector(&shifted, &[])?.as_slice(), [0, 6, 0, -3, 0].as_slice());
+    assert_eq!(rt;
+        next_vector(&shifted, &[])?.as_slice(),
+        [0, 6, 0, -3, 0].as_slice()
+    );
     Ok(())
 }
 
@@ -149,6 +155,9 @@ fn amounts_are_refused(rt: HostRuntime) -> Result<(), Fail> {
     assert_eq!(rt; refused(skew(alloc, &space, &[0, 1], 2, &[1])), cause(2, 2));
     assert_eq!(rt; refused(skew(alloc, &space, &[1, 1], 2, &[1])), cause(3, 0));
     assert_eq!(rt; refused(skew(alloc, &space, &[1], 2, &[65])), cause(4, 65));
-    assert_eq!(rt; refused(shift(alloc, &space, &[1], 1, 1048577)), cause(4, 1048577));
+    assert_eq!(rt;
+        refused(shift(alloc, &space, &[1], 1, 1048577)),
+        cause(4, 1048577)
+    );
     Ok(())
 }
