@@ -1,16 +1,14 @@
 -- What holds where no cause forbids a command.
-use Rattle.std.proofs.Common.{◌≡◌, refl, sym, ap, ◌∙◌, subst, ℕ, ◌<◌, ℤ, pos, unsigned_abs, Bool, true, false, cond, Option, Some, None, List, [], ◌∷◌, length, leb}
+use Rattle.std.proofs.Common.{◌≡◌, refl, ℕ, ℤ, unsigned_abs, Bool, true, false, cond, Option, Some, None, List, [], ◌∷◌, leb}
 use Rattle.std.specs.List.{All}
 use Rattle.std.proofs.lemmas.Bool.{leb-true}
 use Rattle.std.proofs.lemmas.List.Elements.{All-cons, All-nil}
 use Rattle.ch_affine.specs.Affine.{IsAtMost}
-use Rattle.ch_moved.specs.Arguments.{is_piece, natural}
+use Rattle.ch_moved.specs.Arguments.{is_piece}
 use Rattle.ch_moved.specs.Causes.{first_failing, first_of, named_twice, no_level, no_piece}
-use Rattle.ch_moved.proofs.Causing.{piece_number}
 use Rattle.ch_nest.specs.declared.cause.Shape.{Shape}
 use Rattle.ch_permute.specs.Permuted.{is_permutation, moving, no_permutation, permute_cause, too_long, unshared}
 use Rattle.ch_permute.specs.Raised.{skew_cause, wrong_count}
-use Rattle.ch_timed.specs.Timed.{pieces}
 use Rattle.ch_timed.specs.declared.element.Element.{Element}
 
 pub none_first : (o : Option Shape) (more : List (Option Shape)) → first_of (o ∷ more) ≡ None → (o ≡ None) × (first_of more ≡ None)

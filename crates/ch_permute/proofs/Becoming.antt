@@ -1,15 +1,14 @@
 -- Pieces that became others, one after another, and which ones a command means.
-use Rattle.std.proofs.Common.{◌≡◌, refl, sym, ap, ap₂, ◌∙◌, subst, ℕ, zero, suc, ◌+◌, ◌-◌, ◌<◌, ◌≤◌, ℤ, pos, negsuc, ◌≤ℤ◌, ◌<ℤ◌, int_le, Bool, true, false, ◌&&◌, ◌||◌, Option, Some, None, List, [], ◌∷◌, ◌++◌, map, length, get_or, take, drop, cond, ltb, MatchOption, inl, inr, arith}
-use Rattle.std.specs.List.{filter, list_any, range_with_len}
+use Rattle.std.proofs.Common.{◌≡◌, refl, sym, ap, ap₂, ◌∙◌, subst, ℕ, zero, suc, ◌+◌, ◌<◌, ◌≤◌, ℤ, pos, negsuc, ◌≤ℤ◌, int_le, Bool, true, false, ◌&&◌, ◌||◌, Option, Some, None, List, [], ◌∷◌, ◌++◌, map, length, get_or, take, drop, cond, ltb, MatchOption, inl, inr, arith}
+use Rattle.std.specs.List.{list_any, range_with_len}
 use Rattle.std.specs.Ordering.{int_cmp, int_eq}
 use Rattle.std.specs.declared.cmp.Ordering.TheVariants.{Less}
 use Rattle.std.specs.Cmp.Lexicographic.{slice_cmp}
 use Rattle.std.proofs.lemmas.Bool.{and_parts, both_ways, cases_lt, or_cases}
-use Rattle.std.proofs.lemmas.Bool.Decides.{nat_tests}
 use Rattle.std.proofs.lemmas.Int.{ints}
 use Rattle.std.proofs.lemmas.List.{length-map, take_more}
 use Rattle.ch_moved.specs.Arguments.{depth, has_level, is_named, is_piece, natural}
-use Rattle.ch_moved.specs.Causes.{cause, first_failing, no_level, no_piece}
+use Rattle.ch_moved.specs.Causes.{first_failing, no_level}
 use Rattle.ch_permute.specs.Changed.{AllBecome, Becomes, in_first}
 use Rattle.ch_permute.specs.Permuted.{in_moving, is_permutation, last_from, moving, unshared}
 use Rattle.ch_permute.specs.Turned.{Turns, source, target}
@@ -61,9 +60,9 @@ same_number : (ps : List Piece) (j k : ℕ) (d : Piece) → AreApart ps → j < 
 same_number ps j k d a l h e = elim (cases_lt j k) [
   | inl m ↦ absurd (never _ _ (apart_less ps j k d a m h) e)
   | inr m ↦ elim (cases_lt k j) [
-      | inl n ↦ absurd (never _ _ (apart_less ps k j d a n l) (sym e))
-      | inr n ↦ omega arith
-    ]
+    | inl n ↦ absurd (never _ _ (apart_less ps k j d a n l) (sym e))
+    | inr n ↦ omega arith
+  ]
 ]
 
 -- the pieces that numbers name

@@ -1,36 +1,22 @@
 -- Pieces over new levels are changed ones, for each of the two changes.
-use Rattle.std.proofs.Common.{◌≡◌, refl, sym, ap, ap₂, ◌∙◌, subst, ℕ, zero, suc, ◌+◌, ◌-◌, ◌*◌, ◌<◌, ◌≤◌, ◌^◌, ℤ, pos, ◌+ℤ◌, ◌≤ℤ◌, neg_ℤ, unsigned_abs, true, List, [], ◌∷◌, ◌++◌, map, length, get_or, set, take, Result, Ok, Err, arith}
+use Rattle.std.proofs.Common.{◌≡◌, refl, sym, ap, ap₂, ◌∙◌, subst, ℕ, ◌+◌, ◌*◌, ◌≤◌, ◌^◌, ℤ, pos, ◌≤ℤ◌, true, List, [], ◌∷◌, map, length, get_or, take, Result, Ok, Err, arith}
 use Rattle.std.specs.Result.{IfOk}
 use Rattle.std.specs.declared.alloc.AllocError.{AllocError}
-use Rattle.std.specs.List.{All, range_with_len}
-use Rattle.std.proofs.lemmas.Int.{ints}
-use Rattle.std.proofs.lemmas.Nat.{mul-le}
-use Rattle.std.proofs.Math.Nat.{mul-add}
-use Rattle.std.proofs.lemmas.List.{append-nil, get_or-take, get_or-set_other, get_or-set_same, get_or_default, length-map, length-set, length-take-le}
-use Rattle.std.proofs.lemmas.List.FromFn.{get_or-map-range_with_len, length-map-range_with_len}
+use Rattle.std.specs.List.{All}
+use Rattle.std.proofs.lemmas.List.{append-nil, length-map}
 use Rattle.std.proofs.lemmas.List.Elements.{All-head, All-map, All-tail}
-use Rattle.ch_affine.specs.Affine.{IsAtMost, IsSmall, dot, form, value}
+use Rattle.ch_affine.specs.Affine.{IsAtMost, IsSmall, value}
 use Rattle.ch_affine.specs.Form.{Form}
-use Rattle.ch_affine.specs.Rows.{IsBox, IsSystem, lies_in}
+use Rattle.ch_affine.specs.Rows.{IsBox, lies_in}
 use Rattle.ch_affine.specs.declared.system.Range.{Range}
 use Rattle.ch_moved.specs.Changed.{AllLong}
 use Rattle.ch_moved.specs.Reindexed.{IsReindexed}
-use Rattle.ch_moved.specs.Spread.{column, constants}
 use Rattle.ch_moved.specs.Substituted.{image, substituted}
 use Rattle.ch_moved.proofs.Substitutes.{value_spread}
 use Rattle.ch_permute.specs.Changed.{FitPiece, HasRoom, IsChanged}
-use Rattle.ch_permute.specs.Lowered.{greater, less, minus_forms, plus}
-use Rattle.ch_permute.specs.Permuted.{picked}
-use Rattle.ch_permute.specs.Raised.{growth}
-use Rattle.ch_permute.specs.Turned.{Turns, origin_range, source, target, turned, turned_boxes, turned_forms}
-use Rattle.ch_permute.proofs.Columns.{column_turned, constants_turned, dot_column_minus, dot_constants_minus, form_at, forms_count, length_unit, same_or_not}
-use Rattle.ch_permute.proofs.Limits.{at_most_at, bounded_product, far_most, far_more, farther, greater_bounded, in_sum, length_substituted, magnitudes, narrow_by, narrow_small, within_greater}
-use Rattle.ch_permute.proofs.Raising.{lies_set, plus_back, plus_there}
-use Rattle.ch_permute.proofs.Steps.{minus_at, minus_count, minus_other}
-use Rattle.ch_permute.proofs.Turning.{image_turned, length_turned, lies_turned, picked_turned, turned_back}
-use Rattle.ch_permute.proofs.Values.{IsWithin, dot_nothing, dot_pick, lies_at, lies_by, lies_length}
-use Rattle.ch_space.specs.Built.{unit, zeros}
-use Rattle.ch_space.specs.Keeps.{IsBounded, IsLimited, IsNarrow, IsWhole, farthest, most_commands, most_variables, most_weight, places_of}
+use Rattle.ch_permute.proofs.Limits.{far_most, length_substituted, narrow_small}
+use Rattle.ch_permute.proofs.Values.{lies_length}
+use Rattle.ch_space.specs.Keeps.{IsBounded, IsLimited, IsNarrow, IsWhole, farthest, places_of}
 use Rattle.ch_space.specs.Pieces.{element_at, instances}
 use Rattle.ch_space.specs.declared.piece.Piece.{Piece}
 use Rattle.ch_space.proofs.Counted.{box_points_lie}

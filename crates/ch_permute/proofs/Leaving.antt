@@ -1,7 +1,6 @@
 -- The least piece of a group that doesn't share a level, piece by piece.
-use Rattle.std.proofs.Common.{◌≡◌, refl, sym, ap, ◌∙◌, ℕ, suc, ◌+◌, ◌-◌, ◌<◌, ◌≤◌, ℤ, pos, Bool, true, false, not, ◌&&◌, cond, Option, Some, None, List, [], ◌∷◌, map, length, arith}
+use Rattle.std.proofs.Common.{◌≡◌, refl, sym, ap, ◌∙◌, ℕ, suc, ◌+◌, ◌-◌, ◌<◌, ◌≤◌, ℤ, pos, Bool, true, false, not, ◌&&◌, Option, Some, None, List, ◌∷◌, map, arith}
 use Rattle.std.specs.List.{filter, range_with_len}
-use Rattle.ch_moved.specs.Arguments.{natural}
 use Rattle.ch_moved.specs.Causes.{cause, first_failing}
 use Rattle.ch_nest.specs.declared.cause.Shape.{Shape}
 

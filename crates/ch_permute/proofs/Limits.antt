@@ -1,7 +1,6 @@
 -- How large the numbers of changed pieces are.
-use Rattle.std.proofs.Common.{◌≡◌, refl, sym, ap, ap₂, ◌∙◌, subst, ℕ, zero, suc, ◌+◌, ◌-◌, ◌*◌, ◌<◌, ◌≤◌, ◌^◌, ℤ, pos, ◌+ℤ◌, ◌*ℤ◌, ◌-ℤ◌, ◌≤ℤ◌, neg_ℤ, unsigned_abs, int_lt, cond, Bool, true, false, List, [], ◌∷◌, ◌++◌, map, length, get_or, set, drop, inl, inr, sum, arith}
-use Rattle.std.specs.Bool.{IsTrue}
-use Rattle.std.specs.List.{All, range_with_len}
+use Rattle.std.proofs.Common.{◌≡◌, refl, sym, ap, ◌∙◌, subst, ℕ, zero, suc, ◌+◌, ◌*◌, ◌<◌, ◌≤◌, ◌^◌, ℤ, pos, ◌+ℤ◌, ◌*ℤ◌, ◌≤ℤ◌, neg_ℤ, unsigned_abs, int_lt, cond, Bool, true, false, List, [], ◌∷◌, ◌++◌, map, length, get_or, inl, inr, sum, arith}
+use Rattle.std.specs.List.{All}
 use Rattle.std.proofs.lemmas.Bool.{and_from, and_parts, both_ways, cases_lt}
 use Rattle.std.proofs.lemmas.Int.{ints, unsigned_abs-mul}
 use Rattle.std.proofs.lemmas.List.{append-nil, drop_all, get_or_default, get_or_past}
@@ -9,7 +8,7 @@ use Rattle.std.proofs.lemmas.List.Sums.{sum-map, sum_by-cons}
 use Rattle.std.proofs.lemmas.List.Elements.{All-head, All-tail}
 use Rattle.std.proofs.lemmas.Nat.{mul-le}
 use Rattle.std.proofs.Math.Nat.{mul_assoc, mul_comm, mul-add}
-use Rattle.ch_affine.specs.Affine.{IsAtMost, IsSmall, dot, form, value}
+use Rattle.ch_affine.specs.Affine.{IsAtMost, IsSmall, dot, value}
 use Rattle.ch_affine.specs.Form.{Form}
 use Rattle.ch_affine.specs.Rows.{lies_in}
 use Rattle.ch_affine.specs.declared.system.Range.{Range}
@@ -17,7 +16,7 @@ use Rattle.ch_moved.specs.Changed.{AllLong}
 use Rattle.ch_moved.specs.Spread.{column, constants}
 use Rattle.ch_moved.specs.Substituted.{substituted}
 use Rattle.ch_moved.proofs.Substitutes.{coefficient_is, constant_is, front, length_front}
-use Rattle.ch_nest.specs.Shape.{greatest_sum, greatest_term, least_sum, least_term}
+use Rattle.ch_nest.specs.Shape.{greatest_sum, least_sum}
 use Rattle.ch_nest.proofs.Corners.{least_le, greatest_ge}
 use Rattle.ch_permute.specs.Lowered.{greater}
 use Rattle.ch_permute.specs.Raised.{growth}

@@ -11,7 +11,7 @@ use Rattle.ch_order.specs.Legal.{AreAmong}
 use Rattle.ch_permute.specs.Changed.{AllBecome, Becomes, HasRoom, IsChanged}
 use Rattle.ch_permute.proofs.Limits.{far_more}
 use Rattle.ch_space.specs.declared.piece.Piece.{Piece}
-use Rattle.ch_space.specs.Keeps.{AreApart, IsBounded, IsLimited, IsNarrow, IsSpace, IsWhole, farthest, most_commands, most_weight, places_of}
+use Rattle.ch_space.specs.Keeps.{AreApart, IsLimited, IsSpace, IsWhole, most_commands, most_weight, places_of}
 use Rattle.ch_space.specs.Listed.{Listed}
 use Rattle.ch_space.specs.Pieces.{element_at, instances, listed}
 use Rattle.ch_space.proofs.PieceElements.{element_places, element_values}
@@ -134,8 +134,7 @@ makes inside new by arrays w c ps others qs counts copies temps l grows space vi
     let a = subst (λ z. AllBecome (inside (listed z)) new by z qs) o h in
     let e = ap (λ (r : Listed). r.commands) view in
     let s = made_space (inside (listed ps)) new by arrays w c ps qs counts temps grows space a (omega arith) light in
-    let t = made_list (inside (listed ps)) new by arrays w c ps qs counts temps grows space a in
-    (
+    let t = made_list (inside (listed ps)) new by arrays w c ps qs counts temps grows space a in (
       subst (λ (r : Listed). IsSpace r.arrays qs copies r.temps (w * by) (r.commands + 1)) view (subst (λ z. IsSpace arrays qs z temps (w * by) (c + 1)) (sym k) s),
       t ∙ ap (λ (r : Listed). moved (revalued (inside r.list) new) r.list) view,
       subst (λ (r : Listed). AreAmong r.list (closed_up (listed qs))) view (made_among (inside (listed ps)) new by arrays w c ps qs counts temps grows space a (omega arith) light),

@@ -1,9 +1,9 @@
 -- One loop value greater by a form, and back.
-use Rattle.std.proofs.Common.{◌≡◌, ◌≢◌, refl, sym, ap, ◌∙◌, subst, ℕ, zero, suc, ◌+◌, ◌-◌, ◌<◌, ◌≤◌, ℤ, pos, ◌+ℤ◌, ◌-ℤ◌, ◌*ℤ◌, neg_ℤ, ◌≤ℤ◌, true, List, [], ◌∷◌, ◌++◌, map, length, get_or, set, arith}
+use Rattle.std.proofs.Common.{◌≡◌, refl, ap, ◌∙◌, ℕ, zero, suc, ◌+◌, ◌-◌, ◌<◌, ◌≤◌, ℤ, pos, ◌+ℤ◌, ◌-ℤ◌, ◌*ℤ◌, neg_ℤ, true, List, [], ◌∷◌, ◌++◌, map, length, get_or, set, arith}
 use Rattle.std.proofs.lemmas.Int.{ints}
 use Rattle.std.proofs.lemmas.Bool.{and_parts, and_from, both_ways}
 use Rattle.std.proofs.lemmas.List.{ext_get_or, get_or-set_same, length-set, map-set, set-get_or, set-set}
-use Rattle.ch_affine.specs.Affine.{dot, form, value}
+use Rattle.ch_affine.specs.Affine.{dot, value}
 use Rattle.ch_affine.specs.Form.{Form}
 use Rattle.ch_affine.proofs.Integers.{plus_times}
 use Rattle.ch_affine.specs.Rows.{lies_in}
@@ -11,7 +11,7 @@ use Rattle.ch_affine.specs.declared.system.Range.{Range}
 use Rattle.ch_moved.specs.Substituted.{image}
 use Rattle.ch_permute.specs.Lowered.{less, minus_forms, plus}
 use Rattle.ch_permute.specs.Turned.{turned, turned_forms}
-use Rattle.ch_space.specs.Built.{unit, zeros}
+use Rattle.ch_space.specs.Built.{zeros}
 use Rattle.ch_permute.proofs.Turning.{at_turned, image_turned, length_turned}
 use Rattle.ch_permute.proofs.Values.{IsWithin, dot_set_past, dot_unit, le_to}
 

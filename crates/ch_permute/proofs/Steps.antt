@@ -1,11 +1,10 @@
 -- The steps of the code over orders and forms.
-use Rattle.std.proofs.Common.{◌≡◌, ◌≢◌, refl, sym, ap, ap₂, ◌∙◌, subst, ℕ, zero, suc, ◌+◌, ◌-◌, ◌<◌, ◌≤◌, ◌^◌, ℤ, pos, ◌-ℤ◌, neg_ℤ, unsigned_abs, Bool, true, false, List, [], ◌∷◌, ◌++◌, map, length, get_or, set, take, drop, ◌+ℤ◌, SFits, Fits, w64, arith}
+use Rattle.std.proofs.Common.{◌≡◌, ◌≢◌, refl, sym, ap, ap₂, ◌∙◌, subst, ℕ, zero, suc, ◌+◌, ◌-◌, ◌<◌, ◌≤◌, ◌^◌, ℤ, pos, ◌-ℤ◌, neg_ℤ, unsigned_abs, Bool, true, false, List, [], ◌∷◌, ◌++◌, map, length, get_or, set, take, drop, ◌+ℤ◌, arith}
 use Rattle.std.specs.List.{All, list_all, list_any, range_with_len}
 use Rattle.std.specs.Ordering.{int_eq}
-use Rattle.std.specs.Result.{IfOk}
 use Rattle.std.proofs.lemmas.Int.{ints}
 use Rattle.std.proofs.lemmas.Bool.{and_from}
-use Rattle.std.proofs.lemmas.List.{append_assoc, drop_all, get_or-set_other, get_or-set_same, length-append, length-map, length-set, drop_more, take_all, take_at, take_more}
+use Rattle.std.proofs.lemmas.List.{drop_all, get_or-set_other, get_or-set_same, length-append, length-map, length-set, drop_more, take_at, take_more}
 use Rattle.std.proofs.lemmas.List.Elements.{All-append, All-cons, All-map, All-nil}
 use Rattle.std.proofs.lemmas.List.Folds.{list_all-append, list_all_at}
 use Rattle.std.proofs.lemmas.List.FromFn.{get_or-range_with_len, length-range_with_len, map-range_with_len_more}
@@ -17,10 +16,9 @@ use Rattle.ch_space.proofs.PieceNumbers.{range_more}
 use Rattle.ch_space.specs.Built.{unit, zeros}
 use Rattle.ch_permute.specs.Lowered.{greater, less, minus_forms}
 use Rattle.ch_permute.specs.Permuted.{is_permutation}
-use Rattle.ch_permute.specs.Turned.{origin_range, source, target, turned_forms}
+use Rattle.ch_permute.specs.Turned.{origin_range, source, turned_forms}
 use Rattle.ch_permute.proofs.Columns.{form_at, forms_count, length_unit}
-use Rattle.ch_permute.proofs.Turns.{IsOrder, level_at, order_of, source_in}
-use Rattle.ch_permute.proofs.Values.{length_zeros}
+use Rattle.ch_permute.proofs.Turns.{level_at, order_of, source_in}
 
 -- whether an order is one
 

@@ -1,20 +1,18 @@
 -- Loop values that change places, and change back.
-use Rattle.std.proofs.Common.{◌≡◌, ◌≢◌, refl, sym, ap, ◌∙◌, subst, ℕ, zero, suc, ◌+◌, ◌-◌, ◌<◌, ◌≤◌, ℤ, pos, true, false, List, [], ◌∷◌, ◌++◌, map, length, take, drop, get_or, min, ltb, inl, inr, arith}
-use Rattle.std.specs.List.{range_with_len}
+use Rattle.std.proofs.Common.{◌≡◌, sym, ap, ◌∙◌, subst, ℕ, ◌+◌, ◌-◌, ◌<◌, ◌≤◌, ℤ, pos, true, false, List, map, length, take, drop, get_or, min, ltb, inl, inr, arith}
 use Rattle.std.proofs.lemmas.Bool.{cases_lt}
 use Rattle.std.proofs.lemmas.Int.{ints}
 use Rattle.std.proofs.lemmas.List.{ext_get_or, get_or-append_right, get_or-drop, get_or-map, get_or-take, get_or_append_left, length-append, length-drop, length-map, length-take}
 use Rattle.std.proofs.lemmas.List.FromFn.{length-map-range_with_len, get_or-map-range_with_len}
-use Rattle.ch_affine.specs.Affine.{dot, form, value}
-use Rattle.ch_affine.specs.Form.{Form}
+use Rattle.ch_affine.specs.Affine.{value}
 use Rattle.ch_affine.specs.Rows.{lies_in}
 use Rattle.ch_affine.specs.declared.system.Range.{Range}
 use Rattle.ch_moved.specs.Arguments.{at_level, natural}
 use Rattle.ch_moved.specs.Substituted.{image}
 use Rattle.ch_permute.specs.Permuted.{picked}
-use Rattle.ch_permute.specs.Turned.{Turns, origin_range, source, source_by, turned, turned_boxes, turned_forms}
-use Rattle.ch_space.specs.Built.{unit, zeros}
-use Rattle.ch_permute.proofs.Values.{IsWithin, dot_unit, dot_pick, length_zeros, lies_at, lies_by, lies_length, unit_other, unit_same}
+use Rattle.ch_permute.specs.Turned.{origin_range, source, turned, turned_boxes, turned_forms}
+use Rattle.ch_space.specs.Built.{unit}
+use Rattle.ch_permute.proofs.Values.{IsWithin, dot_unit, lies_at, lies_by, lies_length}
 
 pub length_turned : (s : ℕ → ℕ) (xs : List ℤ) → length (turned s xs) ≡ length xs
 length_turned s xs = length-map-range_with_len (λ k. get_or xs (s k) (pos 0)) 0 (length xs)

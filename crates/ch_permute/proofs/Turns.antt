@@ -1,12 +1,12 @@
 -- An order of levels is a permutation: what it takes from each place, and where each comes to.
-use Rattle.std.proofs.Common.{◌≡◌, ◌≢◌, refl, sym, ap, ◌∙◌, subst, ℕ, zero, suc, ◌+◌, ◌-◌, ◌<◌, ◌≤◌, ℤ, pos, negsuc, Bool, true, false, List, [], ◌∷◌, length, get_or, ◌⊎◌, inl, inr, ltb, int_eq, arith}
+use Rattle.std.proofs.Common.{◌≡◌, refl, sym, ap, ◌∙◌, subst, ℕ, zero, suc, ◌+◌, ◌-◌, ◌<◌, ◌≤◌, ℤ, pos, negsuc, Bool, true, false, List, [], ◌∷◌, length, get_or, ◌⊎◌, inl, inr, ltb, int_eq, arith}
 use Rattle.std.specs.List.{list_all, list_any, range_with_len}
 use Rattle.std.proofs.lemmas.Int.{ints}
-use Rattle.std.proofs.lemmas.Bool.{both_ways, and_parts, or_cases, or_left, or_right, cases_lt}
+use Rattle.std.proofs.lemmas.Bool.{both_ways, and_parts, or_cases, cases_lt}
 use Rattle.ch_timed.specs.Members.{In}
 use Rattle.ch_moved.specs.Arguments.{natural}
 use Rattle.ch_permute.specs.Permuted.{is_permutation, last_from, moving}
-use Rattle.ch_permute.specs.Turned.{Turns, place, source, source_by, target, target_by}
+use Rattle.ch_permute.specs.Turned.{Turns, place, source, target}
 
 -- the numbers without the one at a place
 without : ℕ → List ℤ → List ℤ
@@ -75,10 +75,12 @@ all_range t (suc n) a e zero l = let f : a + 0 ≡ a = omega arith in ap t f ∙
 all_range t (suc n) a e (suc i) l = let f : a + suc i ≡ (a + 1) + i = omega arith in ap t f ∙ all_range t n (a + 1) (and_parts _ _ e).1 i (omega arith)
 
 pub order_of : (order : List ℤ) → is_permutation order ≡ true → IsOrder order
-order_of order e = record { has = λ i l.
-    let h = all_range (λ level. list_any (int_eq (pos level)) order) (length order) 1 e i l in
-    let f : 1 + i ≡ suc i = omega arith in
-    any_in (pos (suc i)) order (ap (λ n. list_any (int_eq (pos n)) order) (sym f) ∙ h) }
+order_of order e = record {
+  has = λ i l.
+      let h = all_range (λ level. list_any (int_eq (pos level)) order) (length order) 1 e i l in
+      let f : 1 + i ≡ suc i = omega arith in
+      any_in (pos (suc i)) order (ap (λ n. list_any (int_eq (pos n)) order) (sym f) ∙ h);
+}
 
 found_by : (b : Bool) (p x : ℤ) (xs : List ℤ) → int_eq p x ≡ b → In p (x ∷ xs) → (In p xs → (place p xs < length xs) × (get_or xs (place p xs) (pos 0) ≡ p))
     → (place p (x ∷ xs) < length (x ∷ xs)) × (get_or (x ∷ xs) (place p (x ∷ xs)) (pos 0) ≡ p)
@@ -129,9 +131,9 @@ module _ (order : List ℤ) (is : IsOrder order) where
   same_place j k l h e = elim (cases_lt j k) [
     | inl a ↦ absurd (differ j k a h e)
     | inr a ↦ elim (cases_lt k j) [
-        | inl b ↦ absurd (differ k j b l (sym e))
-        | inr b ↦ omega arith
-      ]
+      | inl b ↦ absurd (differ k j b l (sym e))
+      | inr b ↦ omega arith
+    ]
   ]
 
   pub source_in : (k : ℕ) → k < length order → source order k ≡ natural (get_or order k (pos 0)) - 1

@@ -1,5 +1,5 @@
 -- Commands that change no loop value leave a list as it is, but for closing up.
-use Rattle.std.proofs.Common.{◌≡◌, refl, sym, ap, ap₂, ◌∙◌, ℕ, zero, suc, ◌+◌, ◌-◌, ℤ, pos, ◌+ℤ◌, Bool, true, false, cond, List, [], ◌∷◌, map, length, get_or, set, int_eq, arith}
+use Rattle.std.proofs.Common.{◌≡◌, refl, ap, ap₂, ◌∙◌, ℕ, zero, suc, ◌+◌, ◌-◌, ℤ, pos, ◌+ℤ◌, Bool, true, false, cond, List, [], ◌∷◌, map, set, int_eq, arith}
 use Rattle.std.specs.List.{range_with_len}
 use Rattle.std.proofs.lemmas.Bool.{and_parts, both_ways}
 use Rattle.std.proofs.lemmas.Int.{ints}
@@ -12,7 +12,6 @@ use Rattle.ch_permute.specs.Raised.{raised, shifted, skewed}
 use Rattle.ch_space.specs.Built.{zeros}
 use Rattle.ch_space.proofs.Rowed.{dot_zeros}
 use Rattle.ch_timed.specs.Closed.{at_vector, closed_up}
-use Rattle.ch_timed.specs.Members.{Each, In}
 use Rattle.ch_timed.specs.Timed.{have_vectors, identities_differ, in_order, is_vector, is_well_formed, pieces_apart, vectors_ascend}
 use Rattle.ch_timed.specs.Vectors.{places, values, woven}
 use Rattle.ch_timed.specs.declared.element.Element.{Element}

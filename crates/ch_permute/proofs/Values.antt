@@ -1,13 +1,12 @@
 -- Values of forms of one variable, and points that lie in ranges.
-use Rattle.std.proofs.Common.{◌≡◌, ◌≢◌, refl, sym, ap, ap₂, ◌∙◌, subst, ℕ, zero, suc, ◌+◌, ◌-◌, ◌<◌, ◌≤◌, ℤ, pos, ◌+ℤ◌, ◌-ℤ◌, ◌*ℤ◌, neg_ℤ, ◌≤ℤ◌, int_le, Bool, true, false, List, [], ◌∷◌, ◌++◌, map, length, get_or, set, arith}
-use Rattle.std.specs.Bool.{IsTrue}
+use Rattle.std.proofs.Common.{◌≡◌, ◌≢◌, refl, ap, ℕ, zero, suc, ◌<◌, ◌≤◌, ℤ, pos, ◌+ℤ◌, ◌-ℤ◌, ◌*ℤ◌, ◌≤ℤ◌, int_le, true, List, [], ◌∷◌, ◌++◌, length, get_or, set, arith}
 use Rattle.std.proofs.lemmas.Int.{ints}
 use Rattle.std.proofs.lemmas.Bool.{and_parts, and_from, both_ways}
-use Rattle.ch_affine.specs.Affine.{dot, form, value}
+use Rattle.ch_affine.specs.Affine.{dot}
 use Rattle.ch_affine.specs.Rows.{lies_in}
 use Rattle.ch_affine.specs.declared.system.Range.{Range}
 use Rattle.ch_affine.proofs.Integers.{times_zero, times_plus}
-use Rattle.ch_space.specs.Built.{unit, zeros}
+use Rattle.ch_space.specs.Built.{zeros}
 
 zero_times : (x : ℤ) → pos 0 *ℤ x ≡ pos 0
 zero_times x = omega (arith, ints)

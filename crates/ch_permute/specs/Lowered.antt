@@ -1,5 +1,5 @@
 -- One loop value that becomes greater by the value of a form of those before it, and how the old values follow from the new ones.
-use Rattle.std.specs.Prelude.{ℕ, ◌-◌, ℤ, pos, ◌+ℤ◌, neg_ℤ, List, [], ◌∷◌, ◌++◌, length, map, slice_index_or, slice_set}
+use Rattle.std.specs.Prelude.{ℕ, ◌-◌, ℤ, pos, ◌+ℤ◌, neg_ℤ, List, ◌++◌, length, map, slice_index_or, slice_set}
 use Rattle.ch_affine.specs.Affine.{form, value}
 use Rattle.ch_affine.specs.Form.{Form}
 use Rattle.ch_affine.specs.declared.system.Range.{Range}

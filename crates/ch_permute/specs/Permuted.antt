@@ -1,5 +1,5 @@
 -- Loops of a nest in another order.
-use Rattle.std.specs.Prelude.{ℕ, zero, suc, ◌+◌, ℤ, pos, Bool, true, false, if◌then◌else◌, nat_lt, Option, None, List, [], ◌∷◌, ◌++◌, length, map, take, drop}
+use Rattle.std.specs.Prelude.{ℕ, suc, ℤ, pos, Bool, false, if◌then◌else◌, nat_lt, Option, None, List, [], ◌∷◌, ◌++◌, length, map, take, drop}
 use Rattle.std.specs.List.{list_all, list_any, range_with_len}
 use Rattle.std.specs.Ordering.{int_eq}
 use Rattle.ch_nest.specs.declared.cause.Shape.{Shape}

@@ -1,5 +1,5 @@
 -- A loop value plus a sum of those around it.
-use Rattle.std.specs.Prelude.{ℕ, suc, ◌+◌, ◌-◌, ◌^◌, ℤ, pos, ◌+ℤ◌, ◌-ℤ◌, Bool, if◌then◌else◌, nat_le, nat_lt, unsigned_abs, Option, None, List, [], ◌∷◌, length, map, slice_set}
+use Rattle.std.specs.Prelude.{ℕ, ◌+◌, ◌-◌, ◌^◌, ℤ, pos, ◌+ℤ◌, ◌-ℤ◌, if◌then◌else◌, nat_le, unsigned_abs, Option, None, List, [], ◌∷◌, length, map, slice_set}
 use Rattle.std.specs.List.{sum}
 use Rattle.std.specs.Ordering.{int_eq}
 use Rattle.ch_affine.specs.Affine.{dot}

@@ -46,7 +46,11 @@ fn less(
 }
 
 /// The forms of so many levels that change places.
-pub(crate) fn turned_forms(alloc: Global, order: &[i64], levels: usize) -> Result<List<Aff>, AllocError>
+pub(crate) fn turned_forms(
+    alloc: Global,
+    order: &[i64],
+    levels: usize,
+) -> Result<List<Aff>, AllocError>
     requires few { levels ≤ 10 }
     requires below { (k : ℕ) → k < levels → target order.now k < levels }
     ensures { IfOk result (λ forms. forms ≡ turned_forms (target order.now) levels) }
@@ -78,7 +82,13 @@ fn minus_form(
         made ≡ slice_index_or (minus_forms (form amounts.now amount) level levels) k (unit 0 0)) }
 {
     if k == level {
-        less(alloc, amounts, amount, level - amounts.len(), levels - 1 - level)
+        less(
+            alloc,
+            amounts,
+            amount,
+            level - amounts.len(),
+            levels - 1 - level,
+        )
     } else {
         unit(alloc, k, levels - 1 - k)
     }

@@ -9,6 +9,8 @@ mod permuting;
 mod pieces;
 mod ranges;
 mod skewing;
+#[cfg(test)]
+mod tests;
 
 pub use permuting::permute;
 pub use skewing::{shift, skew};

@@ -12,7 +12,7 @@ ghost use Rattle.ch_timed.specs.Timed.{pieces};
 use crate::change::permuted_pieces;
 use crate::ordering::{first_moving, is_permutation, last_moving};
 use ch_affine::List;
-use ch_moved::causes::{depth, is_piece};
+use ch_moved::causes::{depth, index, is_piece};
 use ch_moved::closed_space;
 use ch_moved::groups::share;
 use ch_nest::Shape;
@@ -86,16 +86,11 @@ fn permute_cause(space: &Space, number: i64, order: &[i64]) -> Option<Shape>
     if !is_permutation(order) {
         return Some(Shape { code: 3, number: 0 });
     }
-    unshared(space, number as u32, order)
+    unshared(space, index(space, number), order)
 }
 
 /// The space, where nothing forbids the command.
-fn permuted(
-    alloc: Global,
-    space: &Space,
-    number: i64,
-    order: &[i64],
-) -> Result<Space, AllocError>
+fn permuted(alloc: Global, space: &Space, number: i64, order: &[i64]) -> Result<Space, AllocError>
     requires few { space.now.commands < 32 }
     requires cause { permute_cause space.now.list number order.now ≡ None }
     ensures list { IfOk result (λ new. new.list ≡ permuted space.now.list number order.now) }
@@ -113,12 +108,7 @@ fn permuted(
 
 /// The space with the loops around a piece in another order: the new loop of each level is the one that the order names. Pieces
 /// that share the first loop which another one replaces change with it. It is not tested whether the program means the same.
-pub fn permute(
-    alloc: Global,
-    space: &Space,
-    piece: i64,
-    order: &[i64],
-) -> Result<Space, ShapeError>
+pub fn permute(alloc: Global, space: &Space, piece: i64, order: &[i64]) -> Result<Space, ShapeError>
     requires few { space.now.commands < 32 }
     ensures cause { Answers result (permute_cause space.now.list piece order.now) }
     ensures list { IfOk result (λ new. new.list ≡ permuted space.now.list piece order.now) }

@@ -34,11 +34,7 @@ fn with_levels(
 }
 
 /// The piece with its loops in that order.
-pub(crate) fn turned_piece(
-    alloc: Global,
-    piece: &Piece,
-    order: &[i64],
-) -> Result<Piece, AllocError>
+pub(crate) fn turned_piece(alloc: Global, piece: &Piece, order: &[i64]) -> Result<Piece, AllocError>
     requires whole { IsWhole piece.now }
     requires room { HasRoom 1 piece.now }
     requires permutation { IsTrue (is_permutation order.now) }

@@ -1,4 +1,4 @@
-use Rattle.std.proofs.Common.{◌≡◌, ◌<◌, ap, ◌∙◌, sym, subst, pos, ◌*◌, ◌+◌, ◌≤◌, ℕ, length, unsigned_abs, SFits, w64, arith}
+use Rattle.std.proofs.Common.{◌≡◌, ap, ◌∙◌, sym, subst, pos, ◌*◌, ◌+◌, ℕ, unsigned_abs, SFits, w64, arith}
 use Rattle.std.specs.Result.{IfOk}
 use Rattle.std.proofs.lemmas.Int.{to_z-of_z}
 use Rattle.ch_moved.proofs.Causing.{piece_number}
@@ -26,9 +26,9 @@ closed_space-requires c =
     let w : c.space.inside.weight * 1 ≡ c.space.inside.weight = omega arith in
     let light = c.space.invariant.small_weight in
     let m =
-        makes (λ list. in_moving list (pos (unsigned_abs c.args.number)) (moving 1 c.args.order.now)) (picked c.args.order.now) 1 c.space.inside.arrays c.space.inside.weight c.space.inside.commands
-        c.space.inside.pieces c.as_slice.result.now c.in_ok-pieces.pieces c.space.inside.counts c.in_ok-counts.counts c.space.inside.temps c.args.space.now (omega arith) c.space.invariant
-        c.space.view_is c.requires.few (omega arith) c.as_slice.ensures (c.in_ok-counts.ensures ∙ c.as_slice-2.ensures) h in
+    makes (λ list. in_moving list (pos (unsigned_abs c.args.number)) (moving 1 c.args.order.now)) (picked c.args.order.now) 1 c.space.inside.arrays c.space.inside.weight c.space.inside.commands
+    c.space.inside.pieces c.as_slice.result.now c.in_ok-pieces.pieces c.space.inside.counts c.in_ok-counts.counts c.space.inside.temps c.args.space.now (omega arith) c.space.invariant
+    c.space.view_is c.requires.few (omega arith) c.as_slice.ensures (c.in_ok-counts.ensures ∙ c.as_slice-2.ensures) h in
     subst (λ (n : ℕ). IsSpace c.args.space.now.arrays c.in_ok-pieces.pieces c.in_ok-counts.counts c.args.space.now.temps n (c.args.space.now.commands + 1)) w m.0
 
 pub returns-clause-list : goal.returns-clause-list
@@ -38,9 +38,9 @@ returns-clause-list c =
     let h = simp to_z-of_z at c.in_ok-pieces.ensures in
     let light = c.space.invariant.small_weight in
     let m =
-        makes (λ list. in_moving list (pos (unsigned_abs c.args.number)) (moving 1 c.args.order.now)) (picked c.args.order.now) 1 c.space.inside.arrays c.space.inside.weight c.space.inside.commands
-        c.space.inside.pieces c.as_slice.result.now c.in_ok-pieces.pieces c.space.inside.counts c.in_ok-counts.counts c.space.inside.temps c.args.space.now (omega arith) c.space.invariant
-        c.space.view_is c.requires.few (omega arith) c.as_slice.ensures (c.in_ok-counts.ensures ∙ c.as_slice-2.ensures) h in
+    makes (λ list. in_moving list (pos (unsigned_abs c.args.number)) (moving 1 c.args.order.now)) (picked c.args.order.now) 1 c.space.inside.arrays c.space.inside.weight c.space.inside.commands
+    c.space.inside.pieces c.as_slice.result.now c.in_ok-pieces.pieces c.space.inside.counts c.in_ok-counts.counts c.space.inside.temps c.args.space.now (omega arith) c.space.invariant
+    c.space.view_is c.requires.few (omega arith) c.as_slice.ensures (c.in_ok-counts.ensures ∙ c.as_slice-2.ensures) h in
     subst (λ z. IfOk c.closed_space.result (λ new. new.list ≡ z)) (m.1 ∙ ap (λ z. permuted c.args.space.now.list z c.args.order.now) (sym s)) c.closed_space.ensures.list
 
 pub returns-clause-kept : goal.returns-clause-kept

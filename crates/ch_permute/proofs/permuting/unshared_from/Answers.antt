@@ -1,7 +1,7 @@
-use Rattle.std.proofs.Common.{pos, length, arith}
+use Rattle.std.proofs.Common.{length, arith}
 use Rattle.std.proofs.lemmas.Int.{ints}
 use Rattle.ch_moved.specs.Arguments.{natural}
-use Rattle.ch_permute.proofs.Leaving.{found_from, next_from, none_from}
+use Rattle.ch_permute.proofs.Leaving.{found_from, next_from}
 use Rattle.ch_timed.specs.Groups.{in_group, piece}
 use Rattle.ch_timed.specs.Timed.{pieces}
 use Rattle.ch_permute.proofs.permuting.unshared_from.Goals as goal

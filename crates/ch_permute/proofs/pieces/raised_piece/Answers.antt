@@ -18,8 +18,8 @@ with_levels-requires-clause-fit c =
     let e = simp to_z-of_z at c.in_ok-forms.ensures in
     let f = simp to_z-of_z at c.in_ok-boxes.ensures in
     let h =
-        raised_is c.args.amounts.now c.args.amount c.args.level p c.as_slice-2.result.now c.in_ok-boxes.boxes c.as_slice.result.now _ c.requires.whole c.requires.level c.requires.before c.requires.near
-        (c.as_slice.ensures ∙ v) (ap (λ (q : Piece). q.levels) c.piece.view_is) (c.as_slice-2.ensures ∙ e) f in
+    raised_is c.args.amounts.now c.args.amount c.args.level p c.as_slice-2.result.now c.in_ok-boxes.boxes c.as_slice.result.now _ c.requires.whole c.requires.level c.requires.before c.requires.near
+    (c.as_slice.ensures ∙ v) (ap (λ (q : Piece). q.levels) c.piece.view_is) (c.as_slice-2.ensures ∙ e) f in
     fits (plus (form c.args.amounts.now c.args.amount) c.args.level) (growth c.args.amounts.now) p c.as_slice-2.result.now c.in_ok-boxes.boxes h c.requires.whole c.requires.room
     (subst (All IsBox) v c.piece.invariant.each)
 
@@ -31,6 +31,6 @@ returns c =
     let e = simp to_z-of_z at c.in_ok-forms.ensures in
     let f = simp to_z-of_z at c.in_ok-boxes.ensures in
     let h =
-        raised_is c.args.amounts.now c.args.amount c.args.level p c.as_slice-2.result.now c.in_ok-boxes.boxes c.as_slice.result.now _ c.requires.whole c.requires.level c.requires.before c.requires.near
-        (c.as_slice.ensures ∙ v) (ap (λ (q : Piece). q.levels) c.piece.view_is) (c.as_slice-2.ensures ∙ e) f in
+    raised_is c.args.amounts.now c.args.amount c.args.level p c.as_slice-2.result.now c.in_ok-boxes.boxes c.as_slice.result.now _ c.requires.whole c.requires.level c.requires.before c.requires.near
+    (c.as_slice.ensures ∙ v) (ap (λ (q : Piece). q.levels) c.piece.view_is) (c.as_slice-2.ensures ∙ e) f in
     changes (plus (form c.args.amounts.now c.args.amount) c.args.level) (growth c.args.amounts.now) p c.as_slice-2.result.now c.in_ok-boxes.boxes c.with_levels.result h c.requires.whole c.with_levels.ensures

@@ -1,4 +1,4 @@
-use Rattle.std.proofs.Common.{◌≡◌, ◌<◌, ap, ◌∙◌, sym, subst, pos, ◌-◌, ◌*◌, ◌+◌, ◌≤◌, ℕ, length, unsigned_abs, SFits, w64, arith}
+use Rattle.std.proofs.Common.{◌≡◌, ap, ◌∙◌, sym, subst, ◌-◌, ◌*◌, ◌+◌, ℕ, SFits, w64, arith}
 use Rattle.std.specs.Result.{IfOk}
 use Rattle.std.proofs.lemmas.Int.{to_z-of_z}
 use Rattle.ch_affine.specs.Affine.{form}
@@ -19,9 +19,9 @@ closed_space-requires c =
     let h = simp to_z-of_z at c.in_ok-pieces.ensures in
     let w : c.space.inside.weight * growth c.args.amounts.now ≡ c.args.weight = ap (λ (r : Listed). r.weight * growth c.args.amounts.now) c.space.view_is ∙ sym c.requires.weight in
     let m =
-        makes (λ list. is_named list c.args.numbers.now) (plus (form c.args.amounts.now c.args.amount) (natural c.args.level - 1)) (growth c.args.amounts.now) c.space.inside.arrays c.space.inside.weight
-        c.space.inside.commands c.space.inside.pieces c.as_slice-old.result.now c.in_ok-pieces.pieces c.space.inside.counts c.in_ok-counts.counts c.space.inside.temps c.args.space.now (omega arith)
-        c.space.invariant c.space.view_is c.requires.few (let l = c.requires.light in omega arith) c.as_slice-old.ensures (c.in_ok-counts.ensures ∙ c.as_slice.ensures) h in
+    makes (λ list. is_named list c.args.numbers.now) (plus (form c.args.amounts.now c.args.amount) (natural c.args.level - 1)) (growth c.args.amounts.now) c.space.inside.arrays c.space.inside.weight
+    c.space.inside.commands c.space.inside.pieces c.as_slice-old.result.now c.in_ok-pieces.pieces c.space.inside.counts c.in_ok-counts.counts c.space.inside.temps c.args.space.now (omega arith)
+    c.space.invariant c.space.view_is c.requires.few (let l = c.requires.light in omega arith) c.as_slice-old.ensures (c.in_ok-counts.ensures ∙ c.as_slice.ensures) h in
     subst (λ (n : ℕ). IsSpace c.args.space.now.arrays c.in_ok-pieces.pieces c.in_ok-counts.counts c.args.space.now.temps n (c.args.space.now.commands + 1)) w m.0
 
 pub returns-clause-list : goal.returns-clause-list
@@ -31,9 +31,9 @@ returns-clause-list c =
     let h = simp to_z-of_z at c.in_ok-pieces.ensures in
     let w : c.space.inside.weight * growth c.args.amounts.now ≡ c.args.weight = ap (λ (r : Listed). r.weight * growth c.args.amounts.now) c.space.view_is ∙ sym c.requires.weight in
     let m =
-        makes (λ list. is_named list c.args.numbers.now) (plus (form c.args.amounts.now c.args.amount) (natural c.args.level - 1)) (growth c.args.amounts.now) c.space.inside.arrays c.space.inside.weight
-        c.space.inside.commands c.space.inside.pieces c.as_slice-old.result.now c.in_ok-pieces.pieces c.space.inside.counts c.in_ok-counts.counts c.space.inside.temps c.args.space.now (omega arith)
-        c.space.invariant c.space.view_is c.requires.few (let l = c.requires.light in omega arith) c.as_slice-old.ensures (c.in_ok-counts.ensures ∙ c.as_slice.ensures) h in
+    makes (λ list. is_named list c.args.numbers.now) (plus (form c.args.amounts.now c.args.amount) (natural c.args.level - 1)) (growth c.args.amounts.now) c.space.inside.arrays c.space.inside.weight
+    c.space.inside.commands c.space.inside.pieces c.as_slice-old.result.now c.in_ok-pieces.pieces c.space.inside.counts c.in_ok-counts.counts c.space.inside.temps c.args.space.now (omega arith)
+    c.space.invariant c.space.view_is c.requires.few (let l = c.requires.light in omega arith) c.as_slice-old.ensures (c.in_ok-counts.ensures ∙ c.as_slice.ensures) h in
     subst (λ z. IfOk c.closed_space.result (λ new. new.list ≡ z)) m.1 c.closed_space.ensures.list
 
 pub returns-clause-kept : goal.returns-clause-kept
