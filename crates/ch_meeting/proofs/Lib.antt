@@ -1,0 +1,5 @@
+pub mod Stretches
+pub mod Least
+pub mod Parts
+pub mod Comparisons
+pub mod Remainders

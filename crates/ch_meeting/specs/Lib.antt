@@ -1,0 +1,4 @@
+pub mod Cases
+pub mod Drafts
+pub mod Meeting
+pub mod Placed

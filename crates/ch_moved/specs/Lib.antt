@@ -1,0 +1,5 @@
+pub mod Moved
+pub mod Arguments
+pub mod Causes
+pub mod Substituted
+pub mod Reindexed
