@@ -112,11 +112,11 @@ values_exact (p ∷ ps) (q ∷ qs) e (x ∷ xs) (y ∷ ys) l m = (λ h. to (valu
     to (inr h) = (let s = inner.0 h.1 in (behind 1 s.0, (inr (map_in (behind 1) (orders_of (p ∷ ps) (q ∷ qs)) s.0 s.1.0), later_in x y xs ys s.0 h.0 s.1.1)))
     from : (o : Order) → In o (at_once ∷ map (behind 1) (orders_of (p ∷ ps) (q ∷ qs))) → InOrder o (x ∷ xs) (y ∷ ys)
         → Before (x ∷ woven (map pos (p ∷ ps)) xs) (y ∷ woven (map pos (q ∷ qs)) ys)
-    from o (inl k) i = less_head x y _ _ ((subst (λ t. InOrder t (x ∷ xs) (y ∷ ys)) (sym k) i).less refl)
+    from o (inl k) i = less_head x y (woven (map pos (p ∷ ps)) xs) (woven (map pos (q ∷ qs)) ys) ((subst (λ t. InOrder t (x ∷ xs) (y ∷ ys)) (sym k) i).less refl)
     from o (inr k) i = (let r = in_map (behind 1) (orders_of (p ∷ ps) (q ∷ qs)) o k in
         let s = in_later x y xs ys r.0 (subst (λ t. InOrder t (x ∷ xs) (y ∷ ys)) (sym r.1.1) i) in
         subst (λ t. Before (x ∷ woven (map pos (p ∷ ps)) xs) (t ∷ woven (map pos (q ∷ qs)) ys)) s.0
-        (same_head x _ _ ∙ inner.1 (r.0, (r.1.0, s.1))))
+        (same_head x (woven (map pos (p ∷ ps)) xs) (woven (map pos (q ∷ qs)) ys) ∙ inner.1 (r.0, (r.1.0, s.1))))
 
 module _ (p q : ℕ) (ps qs : List ℕ) where
   if_less : p < q → orders_of (p ∷ ps) (q ∷ qs) ≡ always ∷ []
@@ -132,27 +132,36 @@ module _ (p q : ℕ) (ps qs : List ℕ) where
       ap (λ b. if b then always ∷ [] else (if nat_lt q p then [] else from_values ps qs (orders_of ps qs))) (le-ltb p q (omega arith))
       ∙ ap (λ b. if b then [] else from_values ps qs (orders_of ps qs)) (le-ltb q p (omega arith))
 
+module _ (p q : ℕ) (ps qs : List ℕ) (xs ys : List ℤ) where
+  abbrev Heads : List Order → Type 0
+  Heads os = Before (woven (map pos (p ∷ ps)) xs) (woven (map pos (q ∷ qs)) ys) ↔ OneOf (λ o. InOrder o xs ys) os
+
+  abbrev Rests : List Order → Type 0
+  Rests os = Before (pos p ∷ rest_of ps xs) (pos q ∷ rest_of qs ys) ↔ OneOf (λ o. InOrder o xs ys) os
+
+  heads : (os : List Order) → Rests os → Heads os
+  heads os h =
+      subst (λ t. Before t (woven (map pos (q ∷ qs)) ys) ↔ OneOf (λ o. InOrder o xs ys) os) (sym (woven_head p ps xs))
+      (subst (λ t. Before (pos p ∷ rest_of ps xs) t ↔ OneOf (λ o. InOrder o xs ys) os) (sym (woven_head q qs ys)) h)
+
+  by_places : (Before (rest_of ps xs) (rest_of qs ys) ↔ OneOf (λ o. InOrder o xs ys) (from_values ps qs (orders_of ps qs)))
+      → (p ≡ q) ⊎ ((p < q) ⊎ (q < p)) → Heads (orders_of (p ∷ ps) (q ∷ qs))
+  by_places inner (inl e) =
+      let head : comes_before (pos p ∷ rest_of ps xs) (pos q ∷ rest_of qs ys) ≡ comes_before (rest_of ps xs) (rest_of qs ys) =
+      ap (λ t. comes_before (pos p ∷ rest_of ps xs) (pos t ∷ rest_of qs ys)) (sym e) ∙ same_head (pos p) (rest_of ps xs) (rest_of qs ys) in
+      heads (orders_of (p ∷ ps) (q ∷ qs)) (subst Rests (sym (if_same p q ps qs e)) (λ h. inner.0 (sym head ∙ h), λ s. head ∙ inner.1 s))
+  by_places inner (inr (inl h)) =
+      heads (orders_of (p ∷ ps) (q ∷ qs)) (subst Rests (sym (if_less p q ps qs h))
+      (λ t. (always, (inl refl, always_in xs ys)), λ s. less_head (pos p) (pos q) (rest_of ps xs) (rest_of qs ys) (omega (arith, ints))))
+  by_places inner (inr (inr h)) =
+      heads (orders_of (p ∷ ps) (q ∷ qs)) (subst Rests (sym (if_more p q ps qs h))
+      (λ t. absurd (more_head (pos p) (pos q) (rest_of ps xs) (rest_of qs ys) (omega (arith, ints)) t), λ s. absurd s.1.0))
+
 pub orders_exact : (ps qs : List ℕ) → Exact ps qs (orders_of ps qs)
 orders_exact [] qs xs ys l m = absurd (omega arith)
 orders_exact (p ∷ ps) [] xs ys l m = absurd (omega arith)
-orders_exact (p ∷ ps) (q ∷ qs) xs ys l m = by (cases_order p q)
-  where
-    heads : (os : List Order) → (Before (pos p ∷ rest_of ps xs) (pos q ∷ rest_of qs ys) ↔ OneOf (λ o. InOrder o xs ys) os) → orders_of (p ∷ ps) (q ∷ qs) ≡ os
-        → Before (woven (map pos (p ∷ ps)) xs) (woven (map pos (q ∷ qs)) ys) ↔ OneOf (λ o. InOrder o xs ys) (orders_of (p ∷ ps) (q ∷ qs))
-    heads os h e =
-        subst (λ t. Before t (woven (map pos (q ∷ qs)) ys) ↔ OneOf (λ o. InOrder o xs ys) (orders_of (p ∷ ps) (q ∷ qs))) (sym (woven_head p ps xs))
-        (subst (λ t. Before (pos p ∷ rest_of ps xs) t ↔ OneOf (λ o. InOrder o xs ys) (orders_of (p ∷ ps) (q ∷ qs))) (sym (woven_head q qs ys))
-        (subst (λ os. Before (pos p ∷ rest_of ps xs) (pos q ∷ rest_of qs ys) ↔ OneOf (λ o. InOrder o xs ys) os) (sym e) h))
-    by : (p ≡ q) ⊎ ((p < q) ⊎ (q < p)) → Before (woven (map pos (p ∷ ps)) xs) (woven (map pos (q ∷ qs)) ys) ↔ OneOf (λ o. InOrder o xs ys) (orders_of (p ∷ ps) (q ∷ qs))
-    by (inl e) =
-        (let inner = values_exact ps qs (orders_exact ps qs) xs ys (omega arith) (omega arith) in
-        let head : comes_before (pos p ∷ rest_of ps xs) (pos q ∷ rest_of qs ys) ≡ comes_before (rest_of ps xs) (rest_of qs ys) =
-        ap (λ t. comes_before (pos p ∷ rest_of ps xs) (pos t ∷ rest_of qs ys)) (sym e) ∙ same_head (pos p) (rest_of ps xs) (rest_of qs ys) in
-        heads (from_values ps qs (orders_of ps qs)) (λ h. inner.0 (sym head ∙ h), λ s. head ∙ inner.1 s) (if_same p q ps qs e))
-    by (inr (inl h)) =
-        heads (always ∷ []) (λ t. (always, (inl refl, always_in xs ys)), λ s. less_head (pos p) (pos q) (rest_of ps xs) (rest_of qs ys) (omega (arith, ints))) (if_less p q ps qs h)
-    by (inr (inr h)) =
-        heads [] (λ t. absurd (more_head (pos p) (pos q) (rest_of ps xs) (rest_of qs ys) (omega (arith, ints)) t), λ s. absurd s.1.0) (if_more p q ps qs h)
+orders_exact (p ∷ ps) (q ∷ qs) xs ys l m =
+    by_places p q ps qs xs ys (values_exact ps qs (orders_exact ps qs) xs ys (omega arith) (omega arith)) (cases_order p q)
 
 -- the orders compare values that there are
 
@@ -176,17 +185,16 @@ values_within n m (p ∷ ps) (q ∷ qs) later l k h =
       next_second = λ t. omega (arith, w.next_second t);
     }
 
+within_by : (n m p q : ℕ) (ps qs : List ℕ) → All (IsWithin n m) (from_values ps qs (orders_of ps qs)) → (p ≡ q) ⊎ ((p < q) ⊎ (q < p)) → All (IsWithin n m) (orders_of (p ∷ ps) (q ∷ qs))
+within_by n m p q ps qs inner (inl e) = subst (All (IsWithin n m)) (sym (if_same p q ps qs e)) inner
+within_by n m p q ps qs inner (inr (inl h)) = subst (All (IsWithin n m)) (sym (if_less p q ps qs h)) (All-cons (IsWithin n m) always [] (always_within n m) (All-nil (IsWithin n m)))
+within_by n m p q ps qs inner (inr (inr h)) = subst (All (IsWithin n m)) (sym (if_more p q ps qs h)) (All-nil (IsWithin n m))
+
 pub orders_within : (n m : ℕ) (ps qs : List ℕ) → length ps ≡ n + 1 → length qs ≡ m + 1 → All (IsWithin n m) (orders_of ps qs)
 orders_within n m [] qs l k = absurd (omega arith)
 orders_within n m (p ∷ ps) [] l k = absurd (omega arith)
-orders_within n m (p ∷ ps) (q ∷ qs) l k = by (cases_order p q)
-  where
-    by : (p ≡ q) ⊎ ((p < q) ⊎ (q < p)) → All (IsWithin n m) (orders_of (p ∷ ps) (q ∷ qs))
-    by (inl e) =
-        subst (All (IsWithin n m)) (sym (if_same p q ps qs e))
-        (values_within n m ps qs (orders_of ps qs) (omega arith) (omega arith) (λ a b i j. orders_within a b ps qs i j))
-    by (inr (inl h)) = subst (All (IsWithin n m)) (sym (if_less p q ps qs h)) (All-cons (IsWithin n m) always [] (always_within n m) (All-nil (IsWithin n m)))
-    by (inr (inr h)) = subst (All (IsWithin n m)) (sym (if_more p q ps qs h)) (All-nil (IsWithin n m))
+orders_within n m (p ∷ ps) (q ∷ qs) l k =
+    within_by n m p q ps qs (values_within n m ps qs (orders_of ps qs) (omega arith) (omega arith) (λ a b i j. orders_within a b ps qs i j)) (cases_order p q)
 
 -- what a step of the code adds
 

@@ -34,16 +34,16 @@ pub inside_lies : (boxes : List Range) (z : List ℤ) → InBox boxes z → IsTr
 inside_lies [] [] i = refl
 inside_lies [] (x ∷ z) i = absurd i
 inside_lies (b ∷ boxes) [] i = absurd i
-inside_lies (b ∷ boxes) (x ∷ z) i = and_from _ _ (le_true b.low x i.0) (and_from _ _ (le_true x b.high i.1) (inside_lies boxes z i.2))
+inside_lies (b ∷ boxes) (x ∷ z) i = and_from (int_le b.low x && int_le x b.high) (lies_in boxes z) (and_from (int_le b.low x) (int_le x b.high) (le_true b.low x i.0) (le_true x b.high i.1)) (inside_lies boxes z i.2)
 
 pub lies_inside : (boxes : List Range) (z : List ℤ) → IsTrue (lies_in boxes z) → InBox boxes z
 lies_inside [] [] h = tt
 lies_inside [] (x ∷ z) h = absurd cc
 lies_inside (b ∷ boxes) [] h = absurd cc
 lies_inside (b ∷ boxes) (x ∷ z) h =
-    let p = and_parts _ _ h in
-    let q = and_parts _ _ p.1 in
-    (true_le b.low x p.0, true_le x b.high q.0, lies_inside boxes z q.1)
+    let p = and_parts (int_le b.low x && int_le x b.high) (lies_in boxes z) h in
+    let q = and_parts (int_le b.low x) (int_le x b.high) p.0 in
+    (true_le b.low x q.0, true_le x b.high q.1, lies_inside boxes z p.1)
 
 -- the least point
 

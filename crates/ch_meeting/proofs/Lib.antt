@@ -3,3 +3,4 @@ pub mod Least
 pub mod Parts
 pub mod Comparisons
 pub mod Remainders
+pub mod Layouts

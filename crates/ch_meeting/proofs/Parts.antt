@@ -21,31 +21,31 @@ use Rattle.ch_space.proofs.Membership.{IsInstance, begins_take, box_points_in, f
 
 -- ranges end to end
 
-pub both_inside : (as bs : List Range) (x y : List ℤ) → InBox as x → InBox bs y → InBox (as ++ bs) (x ++ y)
+pub both_inside : (cs bs : List Range) (x y : List ℤ) → InBox cs x → InBox bs y → InBox (cs ++ bs) (x ++ y)
 both_inside [] bs [] y i j = j
 both_inside [] bs (a ∷ x) y i j = absurd i
-both_inside (r ∷ as) bs [] y i j = absurd i
-both_inside (r ∷ as) bs (a ∷ x) y i j = (i.0, i.1, both_inside as bs x y i.2 j)
+both_inside (r ∷ cs) bs [] y i j = absurd i
+both_inside (r ∷ cs) bs (a ∷ x) y i j = (i.0, i.1, both_inside cs bs x y i.2 j)
 
-inside_both : (as bs : List Range) (z : List ℤ) → InBox (as ++ bs) z → InBox as (take (length as) z) × InBox bs (drop (length as) z)
+inside_both : (cs bs : List Range) (z : List ℤ) → InBox (cs ++ bs) z → InBox cs (take (length cs) z) × InBox bs (drop (length cs) z)
 inside_both [] bs z i = (tt, i)
-inside_both (r ∷ as) bs [] i = absurd i
-inside_both (r ∷ as) bs (a ∷ z) i = let p = inside_both as bs z i.2 in ((i.0, i.1, p.0), p.1)
+inside_both (r ∷ cs) bs [] i = absurd i
+inside_both (r ∷ cs) bs (a ∷ z) i = let p = inside_both cs bs z i.2 in ((i.0, i.1, p.0), p.1)
 
-pub split_at : (as bs : List Range) (o n : ℕ) (z : List ℤ) → length as ≡ n → InBox (as ++ bs) (drop o z) → InBox as (part o n z) × InBox bs (drop (o + n) z)
-split_at as bs o n z e i =
-    let p = inside_both as bs (drop o z) i in (
-      subst (λ m. InBox as (take m (drop o z))) e p.0,
+pub split_at : (cs bs : List Range) (o n : ℕ) (z : List ℤ) → length cs ≡ n → InBox (cs ++ bs) (drop o z) → InBox cs (part o n z) × InBox bs (drop (o + n) z)
+split_at cs bs o n z e i =
+    let p = inside_both cs bs (drop o z) i in (
+      subst (λ m. InBox cs (take m (drop o z))) e p.0,
       subst (λ w. InBox bs w) (ap (λ m. drop m (drop o z)) e ∙ drop-drop n o z) p.1,
     )
 
 -- parts of lists that are joined
 
-pub joined : List (List ℤ) → List ℤ
+abbrev pub joined : List (List ℤ) → List ℤ
 joined [] = []
 joined (w ∷ ws) = w ++ joined ws
 
-pub before : List (List ℤ) → ℕ → ℕ
+abbrev pub before : List (List ℤ) → ℕ → ℕ
 before [] k = 0
 before (w ∷ ws) zero = 0
 before (w ∷ ws) (suc k) = length w + before ws k
@@ -87,20 +87,20 @@ at_part o n k z l = get_or-take n (drop o z) k (pos 0) l ∙ get_or-drop o z k (
 begins_front : (xs hs : List ℤ) → begins xs (xs ++ hs) ≡ true
 begins_front xs hs = subst (λ w. begins w (xs ++ hs) ≡ true) (take_front xs hs) (take_begins (length xs) (xs ++ hs))
 
+abbrev pub Levels : Piece → List ℤ → Type 0
+Levels p xs = InBox (take p.levels p.system.boxes) xs
+
+abbrev pub Hidden : Piece → List ℤ → Type 0
+Hidden p hs = InBox (drop p.levels p.system.boxes) hs
+
 module _ (p : Piece) (w : IsWhole p) where
-  abbrev pub Levels : List ℤ → Type 0
-  Levels xs = InBox (take p.levels p.system.boxes) xs
-
-  abbrev pub Hidden : List ℤ → Type 0
-  Hidden hs = InBox (drop p.levels p.system.boxes) hs
-
   pub levels_long : length (take p.levels p.system.boxes) ≡ p.levels
   levels_long = length-take-le p.levels p.system.boxes (let b = w.boxes in omega arith)
 
   pub hidden_long : length (drop p.levels p.system.boxes) ≡ p.hidden
   hidden_long = let b = w.boxes in let e = length-drop p.levels p.system.boxes in omega arith
 
-  pub instance_here : (xs hs : List ℤ) → Levels p w xs → Hidden p w hs → IsTrue (all_hold p.system.rows (xs ++ hs)) → In xs (instances p)
+  pub instance_here : (xs hs : List ℤ) → Levels p xs → Hidden p hs → IsTrue (all_hold p.system.rows (xs ++ hs)) → In xs (instances p)
   instance_here xs hs i j h = instances_in p xs (record {
     inside = i;
     point = xs ++ hs;
@@ -111,7 +111,7 @@ module _ (p : Piece) (w : IsWhole p) where
   })
 
   -- an instance has hidden values
-  pub hidden_of : (xs : List ℤ) → In xs (instances p) → (hs : List ℤ) × (Levels p w xs × (Hidden p w hs × IsTrue (all_hold p.system.rows (xs ++ hs))))
+  pub hidden_of : (xs : List ℤ) → In xs (instances p) → (hs : List ℤ) × (Levels p xs × (Hidden p hs × IsTrue (all_hold p.system.rows (xs ++ hs))))
   hidden_of xs i =
       let s = in_instances p xs i in
       let f = in_filter (all_hold p.system.rows) (box_points p.system.boxes) s.point s.is_point in

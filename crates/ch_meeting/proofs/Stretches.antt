@@ -55,37 +55,6 @@ negated_small cs s = All-map (IsAtMost (2 ^ 60)) neg_ℤ cs (λ k d l. small _ (
     small : (c : ℤ) → IsAtMost (2 ^ 60) c → IsAtMost (2 ^ 60) (neg_ℤ c)
     small c h = omega (arith, ints)
 
--- Coefficients of the first n variables that give this sum at each point.
-pub record Sums (coefs : List ℤ) (n : ℕ) (v : List ℤ → ℤ) : Type 0 where
-  pub few : length coefs ≤ n
-  pub small : All (IsAtMost (2 ^ 60)) coefs
-  pub sum : (z : List ℤ) → dot coefs z ≡ v z
-
-pub none_added : (coefs : List ℤ) → coefs ≡ [] → Sums coefs 0 (λ z. pos 0)
-none_added coefs e = subst (λ cs. Sums cs 0 (λ z. pos 0)) (sym e) (record { few = omega arith; small = All-nil (IsAtMost (2 ^ 60)); sum = λ z. refl })
-
-module _ (old new more : List ℤ) (n start : ℕ) (v : List ℤ → ℤ) (s : Sums old n v) (l : n ≤ start) where
-  short : length old ≤ start
-  short = let f = s.few in omega arith
-
-  pub added : All (IsAtMost (2 ^ 60)) more → new ≡ padded start old ++ more → Sums new (start + length more) (λ z. v z +ℤ dot more (drop start z))
-  added small e = subst (λ cs. Sums cs (start + length more) (λ z. v z +ℤ dot more (drop start z))) (sym e) (record {
-    few = (let a = length-append (padded start old) more in let b = length_padded start old short in omega arith);
-    small = All-append (IsAtMost (2 ^ 60)) (padded start old) more (padded_small start old s.small) small;
-    sum = λ z. dot_append (padded start old) more z ∙ ap (λ k. dot (padded start old) z +ℤ dot more (drop k z)) (length_padded start old short)
-        ∙ ap (λ t. t +ℤ dot more (drop start z)) (dot_padded start old z ∙ s.sum z);
-  })
-
-pub subtracted : (old new more : List ℤ) (n start : ℕ) (v : List ℤ → ℤ) → Sums old n v → n ≤ start → All (IsAtMost (2 ^ 60)) more → new ≡ padded start old ++ map neg_ℤ more
-    → Sums new (start + length more) (λ z. v z -ℤ dot more (drop start z))
-subtracted old new more n start v s l small e =
-    let a = added old new (map neg_ℤ more) n start v s l (negated_small more small) e in
-    record {
-      few = (let f = a.few in let m = length-map more neg_ℤ in omega arith);
-      small = a.small;
-      sum = λ z. (let h = a.sum z in let d = dot_neg more (drop start z) in omega (arith, ints));
-    }
-
 -- one coefficient
 pub dot_one : (c : ℤ) (start : ℕ) (z : List ℤ) → dot (c ∷ []) (drop start z) ≡ c *ℤ at z start
 dot_one c zero [] = sym (times_none c)
@@ -96,9 +65,73 @@ dot_one c zero (x ∷ z) = omega (arith, ints)
 dot_one c (suc start) [] = sym (Rattle.ch_affine.proofs.Integers.times_zero c)
 dot_one c (suc start) (x ∷ z) = dot_one c start z
 
-pub row_sum : (coefs : List ℤ) (n m : ℕ) (v : List ℤ → ℤ) (constant : ℤ) (row : Form) → Sums coefs n v → row ≡ form (padded m coefs) constant
-    → (z : List ℤ) → value row z ≡ constant +ℤ v z
-row_sum coefs n m v constant row s e z = ap (λ f. value f z) e ∙ ap (λ t. constant +ℤ t) (dot_padded m coefs z ∙ s.sum z)
+-- coefficients one by one
 
-pub row_long : (coefs : List ℤ) (m : ℕ) (constant : ℤ) (row : Form) → length coefs ≤ m → row ≡ form (padded m coefs) constant → length row.coefs ≡ m
-row_long coefs m constant row l e = ap (λ f. length f.coefs) e ∙ length_padded m coefs l
+zeros_more : (k : ℕ) → zeros (k + 1) ≡ zeros k ++ pos 0 ∷ []
+zeros_more zero = refl
+zeros_more (suc k) = let e : suc k + 1 ≡ suc (k + 1) = omega arith in ap zeros e ∙ ap (λ t. pos 0 ∷ t) (zeros_more k)
+
+pub pad_none : (cs : List ℤ) → cs ≡ padded (length cs) cs
+pad_none cs = let e : 0 ≡ length cs - length cs = omega arith in sym (append-nil cs) ∙ ap (λ n. cs ++ zeros n) e
+
+pub pad_more : (first now next : List ℤ) (k : ℕ) → length first ≤ k → now ≡ padded k first → next ≡ now ++ pos 0 ∷ [] → next ≡ padded (k + 1) first
+pad_more first now next k l e n =
+    let s : k + 1 - length first ≡ k - length first + 1 = omega arith in
+    n ∙ ap (λ t. t ++ pos 0 ∷ []) e ∙ append_assoc first (zeros (k - length first)) (pos 0 ∷ [])
+    ∙ ap (λ t. first ++ t) (sym (zeros_more (k - length first)) ∙ ap zeros (sym s))
+
+pub pad_end : (first now : List ℤ) (k n : ℕ) → k ≤ n → n ≤ k → now ≡ padded k first → now ≡ padded n first
+pad_end first now k n l m e = e ∙ ap (λ j. padded j first) (omega arith)
+
+pub opposite_small : (form : Form) (coefs : List ℤ) (constant : ℤ) → Rattle.ch_affine.specs.Affine.IsSmall form → coefs ≡ map neg_ℤ form.coefs → constant ≡ neg_ℤ form.constant
+    → Rattle.ch_affine.specs.Affine.IsSmall (record { coefs = coefs; constant = constant })
+opposite_small form coefs constant s e f = record {
+  few = (let n = ap length e ∙ length-map form.coefs neg_ℤ in let h = s.few in omega arith);
+  coefs = subst (All (IsAtMost (2 ^ 60))) (sym e) (negated_small form.coefs s.coefs);
+  constant = (let h = s.constant in omega (arith, ints, f));
+}
+
+pub negated_number : (z : ℤ) → pos 0 -ℤ z ≡ neg_ℤ z
+negated_number z = omega (arith, ints)
+
+-- what is added to coefficients
+
+module _ (old mid new more : List ℤ) (start : ℕ) (l : length old ≤ start) (m : mid ≡ padded start old) (e : new ≡ mid ++ more) where
+  whole : new ≡ padded start old ++ more
+  whole = e ∙ ap (λ t. t ++ more) m
+
+  pub added_long : length new ≡ start + length more
+  added_long = ap length whole ∙ length-append (padded start old) more ∙ ap (λ n. n + length more) (length_padded start old l)
+
+  pub added_small : All (IsAtMost (2 ^ 60)) old → All (IsAtMost (2 ^ 60)) more → All (IsAtMost (2 ^ 60)) new
+  added_small s t = subst (All (IsAtMost (2 ^ 60))) (sym whole) (All-append (IsAtMost (2 ^ 60)) (padded start old) more (padded_small start old s) t)
+
+  pub added_sum : (z : List ℤ) → dot new z ≡ dot old z +ℤ dot more (drop start z)
+  added_sum z =
+      ap (λ t. dot t z) whole ∙ dot_append (padded start old) more z ∙ ap (λ k. dot (padded start old) z +ℤ dot more (drop k z)) (length_padded start old l)
+      ∙ ap (λ t. t +ℤ dot more (drop start z)) (dot_padded start old z)
+
+pub one_small : (c : ℤ) → IsAtMost (2 ^ 60) c → All (IsAtMost (2 ^ 60)) (c ∷ [])
+one_small c h = All-cons (IsAtMost (2 ^ 60)) c [] h (All-nil (IsAtMost (2 ^ 60)))
+
+pub row_small : (coefs padding : List ℤ) (m : ℕ) (constant : ℤ) → length coefs ≤ m → m ≤ 4096 → All (IsAtMost (2 ^ 60)) coefs → IsAtMost (2 ^ 60) constant → padding ≡ padded m coefs
+    → Rattle.ch_affine.specs.Affine.IsSmall (record { coefs = padding; constant = constant })
+row_small coefs padding m constant l few s h e = record {
+  few = (let n = ap length e ∙ length_padded m coefs l in omega arith);
+  coefs = subst (All (IsAtMost (2 ^ 60))) (sym e) (padded_small m coefs s);
+  constant = h;
+}
+
+pub row_value : (coefs padding : List ℤ) (m : ℕ) (constant : ℤ) → padding ≡ padded m coefs → (z : List ℤ) → constant +ℤ dot padding z ≡ constant +ℤ dot coefs z
+row_value coefs padding m constant e z = ap (λ t. constant +ℤ t) (ap (λ cs. dot cs z) e ∙ dot_padded m coefs z)
+
+pub subtracted_sum : (old mid new more : List ℤ) (start : ℕ) → length old ≤ start → mid ≡ padded start old → new ≡ mid ++ map neg_ℤ more
+    → (z : List ℤ) → dot new z ≡ dot old z -ℤ dot more (drop start z)
+subtracted_sum old mid new more start l m e z =
+    let s = added_sum old mid new (map neg_ℤ more) start l m e z in
+    let d = dot_neg more (drop start z) in
+    omega (arith, ints)
+
+pub added_one_sum : (old mid new : List ℤ) (c : ℤ) (start : ℕ) → length old ≤ start → mid ≡ padded start old → new ≡ mid ++ c ∷ []
+    → (z : List ℤ) → dot new z ≡ dot old z +ℤ (c *ℤ at z start)
+added_one_sum old mid new c start l m e z = added_sum old mid new (c ∷ []) start l m e z ∙ ap (λ t. dot old z +ℤ t) (dot_one c start z)

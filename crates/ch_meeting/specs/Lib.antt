@@ -1,3 +1,4 @@
+pub mod Asked
 pub mod Cases
 pub mod Drafts
 pub mod Meeting

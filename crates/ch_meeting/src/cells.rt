@@ -9,7 +9,7 @@ ghost use Rattle.ch_meeting.specs.Drafts.{IsDraft, Narrows};
 ghost use Rattle.ch_meeting.specs.Placed.{InModulus, IsSame, SameUpTo, left};
 ghost use Rattle.ch_poly.specs.Boxes.{at};
 
-use crate::draft::{Draft, add, row, subtract};
+use crate::draft::{Draft, add, add_one, no_coefs, row, subtract};
 use ch_affine::{Aff, List};
 use ch_nest::{Access, Sub};
 use std::alloc::{AllocError, Global};
@@ -36,9 +36,9 @@ fn left_row(
     ensures value { IfOk result (λ row. (z : List ℤ) → value row z
         ≡ left sub.now (drop iters z) (at z turn)) }
 {
-    let mut coefs = List::with_capacity(alloc, variables)?;
+    let mut coefs = no_coefs(alloc, variables)?;
     add(&mut coefs, iters, sub.form.coefs.as_slice())?;
-    add(&mut coefs, turn, &[-i64::from(sub.modulus)])?;
+    add_one(&mut coefs, turn, -i64::from(sub.modulus))?;
     row(coefs, variables, sub.form.constant)
 }
 
@@ -60,11 +60,11 @@ fn below_row(
     ensures value { IfOk result (λ row. (z : List ℤ) → at z one ≡ pos 1 → value row z
         ≡ (pos sub.now.modulus -ℤ pos 1) -ℤ left sub.now (drop iters z) (at z turn)) }
 {
-    let mut coefs = List::with_capacity(alloc, variables)?;
+    let mut coefs = no_coefs(alloc, variables)?;
     let modulus = i64::from(sub.modulus);
     subtract(&mut coefs, iters, sub.form.coefs.as_slice())?;
-    add(&mut coefs, turn, &[modulus])?;
-    add(&mut coefs, one, &[modulus - 1])?;
+    add_one(&mut coefs, turn, modulus)?;
+    add_one(&mut coefs, one, modulus - 1)?;
     row(coefs, variables, -sub.form.constant)
 }
 
@@ -89,12 +89,12 @@ fn same_row(
         ≡ left sub.now (drop here.iters z) (at z here.turns)
         -ℤ left other.now (drop there.iters z) (at z there.turns)) }
 {
-    let mut coefs = List::with_capacity(alloc, variables)?;
+    let mut coefs = no_coefs(alloc, variables)?;
     add(&mut coefs, here.iters, sub.form.coefs.as_slice())?;
     subtract(&mut coefs, there.iters, other.form.coefs.as_slice())?;
-    add(&mut coefs, here.turns, &[-i64::from(sub.modulus)])?;
-    add(&mut coefs, there.turns, &[i64::from(other.modulus)])?;
-    add(&mut coefs, one, &[-other.form.constant])?;
+    add_one(&mut coefs, here.turns, -i64::from(sub.modulus))?;
+    add_one(&mut coefs, there.turns, i64::from(other.modulus))?;
+    add_one(&mut coefs, one, -other.form.constant)?;
     row(coefs, variables, sub.form.constant)
 }
 

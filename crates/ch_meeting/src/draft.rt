@@ -1,11 +1,12 @@
 //! A system of rows over ranges while it is made, and its least point.
 
-ghost use Rattle.std.specs.Prelude.{◌≡◌, ◌≤◌, ◌≤ℤ◌, ◌^◌, ◌++◌, ◌∷◌, [], neg_ℤ, pos, length, map, IfOk, OnOk};
+ghost use Rattle.std.specs.Prelude.{◌≡◌, ◌≤◌, ◌≤ℤ◌, ◌+◌, ◌^◌, ◌+ℤ◌, ◌-ℤ◌, ◌*ℤ◌, ◌++◌, [], neg_ℤ, pos, ℤ, List, length, map, drop, IfOk, OnOk};
 ghost use Rattle.std.specs.List.{All};
-ghost use Rattle.ch_affine.specs.Affine.{IsAtMost, form, value};
+ghost use Rattle.ch_affine.specs.Affine.{IsAtMost, dot, form, value};
 ghost use Rattle.ch_affine.specs.Rows.{IsSystem};
 ghost use Rattle.ch_meeting.specs.Drafts.{IsDraft, IsLeastFit, Narrows};
-ghost use Rattle.ch_space.specs.Built.{padded, zeros};
+ghost use Rattle.ch_poly.specs.Boxes.{at};
+ghost use Rattle.ch_space.specs.Built.{padded};
 
 use ch_affine::{Aff, List, Range, System};
 use ch_poly::least_point;
@@ -36,29 +37,74 @@ fn pad(coefs: &mut List<i64>, count: usize) -> Result<(), AllocError>
     Ok(())
 }
 
-/// Adds coefficients for the variables from `start` on. Those between have none.
-pub(crate) fn add(coefs: &mut List<i64>, start: usize, more: &[i64]) -> Result<(), AllocError>
-    requires { length coefs.old ≤ start }
-    ensures { OnOk result (coefs.new ≡ padded start coefs.old ++ more.now) }
+fn extend(coefs: &mut List<i64>, more: &[i64]) -> Result<(), AllocError>
+    ensures { OnOk result (coefs.new ≡ coefs.old ++ more.now) }
 {
-    pad(coefs, start)?;
     for coef in more {
         coefs.push(*coef)?;
     }
     Ok(())
 }
 
-/// Adds the negatives of these coefficients for the variables from `start` on.
-pub(crate) fn subtract(coefs: &mut List<i64>, start: usize, more: &[i64]) -> Result<(), AllocError>
-    requires after { length coefs.old ≤ start }
-    requires small { All (IsAtMost (2 ^ 60)) more.now }
-    ensures { OnOk result (coefs.new ≡ padded start coefs.old ++ map neg_ℤ more.now) }
+fn extend_negated(coefs: &mut List<i64>, more: &[i64]) -> Result<(), AllocError>
+    requires { All (IsAtMost (2 ^ 60)) more.now }
+    ensures { OnOk result (coefs.new ≡ coefs.old ++ map neg_ℤ more.now) }
 {
-    pad(coefs, start)?;
     for coef in more {
         coefs.push(-*coef)?;
     }
     Ok(())
+}
+
+/// The coefficients of a row in which no variable has one, with memory for so many.
+pub(crate) fn no_coefs(alloc: Global, variables: usize) -> Result<List<i64>, AllocError>
+    ensures long { IfOk result (λ coefs. length coefs ≡ 0) }
+    ensures small { IfOk result (λ coefs. All (IsAtMost (2 ^ 60)) coefs) }
+    ensures sum { IfOk result (λ coefs. (z : List ℤ) → dot coefs z ≡ pos 0) }
+{
+    List::with_capacity(alloc, variables)
+}
+
+/// Gives coefficients to the variables from `start` on.
+pub(crate) fn add(coefs: &mut List<i64>, start: usize, more: &[i64]) -> Result<(), AllocError>
+    requires after { length coefs.old ≤ start }
+    requires small { All (IsAtMost (2 ^ 60)) coefs.old }
+    requires small_more { All (IsAtMost (2 ^ 60)) more.now }
+    ensures long { OnOk result (length coefs.new ≡ start + length more.now) }
+    ensures small { OnOk result (All (IsAtMost (2 ^ 60)) coefs.new) }
+    ensures sum { OnOk result ((z : List ℤ) → dot coefs.new z
+        ≡ dot coefs.old z +ℤ dot more.now (drop start z)) }
+{
+    pad(coefs, start)?;
+    extend(coefs, more)
+}
+
+/// Gives the negatives of these coefficients to the variables from `start` on.
+pub(crate) fn subtract(coefs: &mut List<i64>, start: usize, more: &[i64]) -> Result<(), AllocError>
+    requires after { length coefs.old ≤ start }
+    requires small { All (IsAtMost (2 ^ 60)) coefs.old }
+    requires small_more { All (IsAtMost (2 ^ 60)) more.now }
+    ensures long { OnOk result (length coefs.new ≡ start + length more.now) }
+    ensures small { OnOk result (All (IsAtMost (2 ^ 60)) coefs.new) }
+    ensures sum { OnOk result ((z : List ℤ) → dot coefs.new z
+        ≡ dot coefs.old z -ℤ dot more.now (drop start z)) }
+{
+    pad(coefs, start)?;
+    extend_negated(coefs, more)
+}
+
+/// Gives a coefficient to one variable.
+pub(crate) fn add_one(coefs: &mut List<i64>, variable: usize, coef: i64) -> Result<(), AllocError>
+    requires after { length coefs.old ≤ variable }
+    requires small { All (IsAtMost (2 ^ 60)) coefs.old }
+    requires small_one { IsAtMost (2 ^ 60) coef }
+    ensures long { OnOk result (length coefs.new ≡ variable + 1) }
+    ensures small { OnOk result (All (IsAtMost (2 ^ 60)) coefs.new) }
+    ensures sum { OnOk result ((z : List ℤ) → dot coefs.new z
+        ≡ dot coefs.old z +ℤ (coef *ℤ at z variable)) }
+{
+    pad(coefs, variable)?;
+    coefs.push(coef)
 }
 
 /// The row of these coefficients, in which no further variable has one.
@@ -67,7 +113,8 @@ pub(crate) fn row(mut coefs: List<i64>, variables: usize, constant: i64) -> Resu
     requires few { variables ≤ 4096 }
     requires small { All (IsAtMost (2 ^ 60)) coefs }
     requires constant { IsAtMost (2 ^ 60) constant }
-    ensures { IfOk result (λ row. row ≡ form (padded variables coefs) constant) }
+    ensures long { IfOk result (λ row. length row.coefs ≡ variables) }
+    ensures value { IfOk result (λ row. (z : List ℤ) → value row z ≡ constant +ℤ dot coefs z) }
 {
     pad(&mut coefs, variables)?;
     Ok(Aff { coefs, constant })
@@ -78,9 +125,7 @@ fn opposite(alloc: Global, row: &Aff) -> Result<Aff, AllocError>
     ensures { IfOk result (λ other. other ≡ form (map neg_ℤ row.now.coefs) (neg_ℤ row.now.constant)) }
 {
     let mut coefs = List::with_capacity(alloc, row.coefs.len())?;
-    for coef in row.coefs.as_slice() {
-        coefs.push(-*coef)?;
-    }
+    extend_negated(&mut coefs, row.coefs.as_slice())?;
     Ok(Aff {
         coefs,
         constant: -row.constant,

@@ -2,7 +2,9 @@
 //! the least meeting pair that two other pieces have the other way round.
 #![tactic(auto)]
 
+mod cells;
 mod draft;
+mod layout;
 mod orders;
 mod placing;
 mod queries;

@@ -1,12 +1,16 @@
 //! The ways in which one vector comes before another: the first places and values in which they agree, and the place or value by
 //! which they differ.
 
-ghost use Rattle.std.specs.Prelude.{◌≡◌, ◌<◌, ◌+◌, ◌^◌, ◌++◌, length, map, pos, IfOk, IsTrue, OnOk, ◌↔◌, ℕ, ℤ, List};
+ghost use Rattle.std.specs.Prelude.{◌≡◌, ◌≤◌, ◌<◌, ◌+◌, ◌^◌, ◌+ℤ◌, ◌-ℤ◌, ◌++◌, length, map, drop, pos, IfOk, IsTrue, OnOk, ◌↔◌, ℕ, ℤ, List};
 ghost use Rattle.std.specs.List.{All};
+ghost use Rattle.ch_affine.specs.Affine.{IsAtMost, value};
 ghost use Rattle.ch_meeting.specs.Cases.{InOrder, IsWithin, OneOf, behind, orders_of};
+ghost use Rattle.ch_meeting.specs.Drafts.{IsDraft, Narrows};
+ghost use Rattle.ch_poly.specs.Boxes.{at};
 ghost use Rattle.ch_timed.specs.Vectors.{comes_before, woven};
 
-use ch_affine::List;
+use crate::draft::{Draft, add_one, no_coefs, row};
+use ch_affine::{Aff, List};
 use std::alloc::{AllocError, Global};
 
 /// The first `equal` values of two vectors are the same and, where it is `less`, the next one of the first is less.
@@ -74,13 +78,13 @@ fn step_row(
     ensures value { IfOk result (λ row. (z : List ℤ) → value row z
         ≡ constant +ℤ (at z second -ℤ at z first)) }
 {
-    let mut coefs = List::with_capacity(alloc, variables)?;
-    add(&mut coefs, first, &[-1])?;
-    add(&mut coefs, second, &[1])?;
+    let mut coefs = no_coefs(alloc, variables)?;
+    add_one(&mut coefs, first, -1)?;
+    add_one(&mut coefs, second, 1)?;
     row(coefs, variables, constant)
 }
 
-/// Asks for points at which the values from `first` on and those from `second` on are in the order. `second` is later.
+/// Asks for points at which the values from `first` on and those from `second` on are in the order.
 pub(crate) fn put_in_order(
     alloc: Global,
     draft: &mut Draft,
@@ -89,7 +93,8 @@ pub(crate) fn put_in_order(
     second: usize,
 ) -> Result<(), AllocError>
     requires draft { IsDraft draft.old }
-    requires after { first < second }
+    requires after { first + order.equal ≤ second }
+    requires after_next { IsTrue order.less → first + order.equal < second }
     requires inside { second + order.equal ≤ length draft.old.boxes }
     requires inside_next { IsTrue order.less → second + order.equal < length draft.old.boxes }
     ensures { OnOk result (Narrows draft.old draft.new

@@ -7,7 +7,7 @@ ghost use Rattle.ch_meeting.specs.Placed.{HoldsAt, PairAt, PairTiedAt, TiedAt, p
 ghost use Rattle.ch_poly.specs.Boxes.{at};
 ghost use Rattle.ch_space.specs.Keeps.{IsWhole};
 
-use crate::draft::{Draft, add, known, row};
+use crate::draft::{Draft, add, add_one, known, no_coefs, row};
 use ch_affine::{Aff, List, Range};
 use ch_space::Piece;
 use std::alloc::{AllocError, Global};
@@ -30,7 +30,7 @@ fn placed_row(
         ≡ form.now.constant +ℤ (dot (take count form.now.coefs) (drop levels z) +ℤ dot (drop count form.now.coefs) (drop hidden z))) }
 {
     let (front, back) = form.coefs.as_slice().split_at(count);
-    let mut coefs = List::with_capacity(alloc, variables)?;
+    let mut coefs = no_coefs(alloc, variables)?;
     add(&mut coefs, levels, front)?;
     add(&mut coefs, hidden, back)?;
     row(coefs, variables, form.constant)
@@ -75,9 +75,9 @@ fn tie_row(
     ensures value { IfOk result (λ tie. (z : List ℤ) → value tie z
         ≡ value form.now (drop levels z) -ℤ at z iter) }
 {
-    let mut coefs = List::with_capacity(alloc, variables)?;
+    let mut coefs = no_coefs(alloc, variables)?;
     add(&mut coefs, levels, form.coefs.as_slice())?;
-    add(&mut coefs, iter, &[-1])?;
+    add_one(&mut coefs, iter, -1)?;
     row(coefs, variables, form.constant)
 }
 
@@ -101,4 +101,49 @@ pub(crate) fn tie(
         draft.zero(alloc, row)?;
     }
     Ok(())
+}
+
+/// The rows of two pieces whose levels stand from `start` on, and behind them the hidden variables of both.
+pub(crate) fn place_pair(
+    alloc: Global,
+    draft: &mut Draft,
+    first: &Piece,
+    second: &Piece,
+    start: usize,
+) -> Result<(), AllocError>
+    requires draft { IsDraft draft.old }
+    requires first { IsWhole first.now }
+    requires second { IsWhole second.now }
+    requires inside { start + first.now.levels + second.now.levels + first.now.hidden
+        + second.now.hidden ≤ length draft.old.boxes }
+    ensures { OnOk result (Narrows draft.old draft.new (PairAt first.now second.now start)) }
+{
+    let others = start + first.levels as usize;
+    let hidden = others + second.levels as usize;
+    let behind = hidden + first.hidden as usize;
+    place(alloc, draft, first, start, hidden)?;
+    place(alloc, draft, second, others, behind)
+}
+
+/// The iterators of both, of the first from `iters` on and those of the second behind them.
+pub(crate) fn tie_pair(
+    alloc: Global,
+    draft: &mut Draft,
+    first: &Piece,
+    second: &Piece,
+    start: usize,
+    iters: usize,
+) -> Result<(), AllocError>
+    requires draft { IsDraft draft.old }
+    requires first { IsWhole first.now }
+    requires second { IsWhole second.now }
+    requires after { start + first.now.levels + second.now.levels ≤ iters }
+    requires inside { iters + length first.now.origin + length second.now.origin
+        ≤ length draft.old.boxes }
+    ensures { OnOk result (Narrows draft.old draft.new
+        (PairTiedAt first.now second.now start iters)) }
+{
+    tie(alloc, draft, first, start, iters)?;
+    let others = start + first.levels as usize;
+    tie(alloc, draft, second, others, iters + first.origin.len())
 }

@@ -1,0 +1,4 @@
+use Rattle.ch_meeting.proofs.orders.+push_orders.Goals as goal
+
+pub returns : goal.returns
+returns t c = ?
