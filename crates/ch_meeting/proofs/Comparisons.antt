@@ -1,5 +1,5 @@
 -- A vector comes before another exactly where their values are in one of the orders of their places.
-use Rattle.std.proofs.Common.{◌≡◌, refl, sym, ap, ap₂, ◌∙◌, subst, ℕ, zero, suc, ◌+◌, ◌<◌, ◌≤◌, ℤ, pos, ◌<ℤ◌, ◌↔◌, Bool, true, false, nat_lt, if◌then◌else◌, List, [], ◌∷◌, ◌++◌, length, map, get_or, ◌⊎◌, inl, inr, arith, map-id, cond}
+use Rattle.std.proofs.Common.{◌≡◌, refl, sym, ap, ap₂, ◌∙◌, subst, ℕ, zero, suc, ◌+◌, ◌<◌, ◌≤◌, ℤ, pos, ◌<ℤ◌, ◌↔◌, Bool, true, false, nat_lt, if◌then◌else◌, List, [], ◌∷◌, ◌++◌, length, map, get_or, ◌⊎◌, inl, inr, arith, append_assoc}
 use Rattle.std.specs.Bool.{IsTrue}
 use Rattle.std.specs.List.{All}
 use Rattle.std.specs.Ordering.{int_cmp, is_lt, ordering_then, MatchOrdering}
@@ -75,7 +75,7 @@ always_in xs ys = record { same = λ k l. absurd (omega arith); less = λ t. abs
 
 -- The orders of what follows a place that both have.
 
-abbrev Exact : List ℕ → List ℕ → List Order → Type 0
+abbrev pub Exact : List ℕ → List ℕ → List Order → Type 0
 Exact ps qs orders = (xs ys : List ℤ) → length ps ≡ length xs + 1 → length qs ≡ length ys + 1
     → Before (woven (map pos ps) xs) (woven (map pos qs) ys) ↔ OneOf (λ o. InOrder o xs ys) orders
 
@@ -198,7 +198,7 @@ orders_within n m (p ∷ ps) (q ∷ qs) l k =
 
 -- what a step of the code adds
 
-behind_none : (os : List Order) → map (behind 0) os ≡ os
+pub behind_none : (os : List Order) → map (behind 0) os ≡ os
 behind_none [] = refl
 behind_none (o ∷ os) = ap₂ (λ x xs. x ∷ xs) same (behind_none os)
   where
@@ -211,3 +211,14 @@ behind_more n (o ∷ os) = ap₂ (λ x xs. x ∷ xs) same (behind_more n os)
   where
     same : behind n (behind 1 o) ≡ behind (n + 1) o
     same = ap (λ n. record { equal = n; less = o.less }) (omega arith)
+
+pub step_more : (first second : List ℕ) (p q n : ℕ) (ps qs : List ℕ) (old mid new : List Order) → first ≡ p ∷ ps → second ≡ q ∷ qs → q ≤ p → p ≤ q → 1 ≤ length ps → 1 ≤ length qs
+    → mid ≡ old ++ record { equal = n; less = true } ∷ [] → new ≡ mid ++ map (behind (n + 1)) (orders_of ps qs) → new ≡ old ++ map (behind n) (orders_of first second)
+step_more first second p q n [] qs old mid new e f g h i j k l = absurd (omega arith)
+step_more first second p q n (x ∷ ps) [] old mid new e f g h i j k l = absurd (omega arith)
+step_more first second p q n (x ∷ ps) (y ∷ qs) old mid new e f g h i j k l =
+    let later : List Order = orders_of (x ∷ ps) (y ∷ qs) in
+    let now : behind n at_once ≡ record { equal = n; less = true } = ap (λ m. record { equal = m; less = true }) (omega arith) in
+    let those : map (behind n) (orders_of first second) ≡ record { equal = n; less = true } ∷ map (behind (n + 1)) later =
+    ap₂ (λ a b. map (behind n) (orders_of a b)) e f ∙ ap (map (behind n)) (if_same p q (x ∷ ps) (y ∷ qs) (omega arith)) ∙ ap₂ (λ a b. a ∷ b) now (behind_more n later) in
+    l ∙ ap (λ t. t ++ map (behind (n + 1)) later) k ∙ append_assoc old (record { equal = n; less = true } ∷ []) (map (behind (n + 1)) later) ∙ ap (λ t. old ++ t) (sym those)

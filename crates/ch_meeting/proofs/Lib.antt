@@ -4,3 +4,4 @@ pub mod Parts
 pub mod Comparisons
 pub mod Remainders
 pub mod Layouts
+pub mod RowValues

@@ -38,7 +38,7 @@ zeros_small (suc n) = All-cons (IsAtMost (2 ^ 60)) (pos 0) (zeros n) (omega (ari
 pub padded_small : (n : ℕ) (cs : List ℤ) → All (IsAtMost (2 ^ 60)) cs → All (IsAtMost (2 ^ 60)) (padded n cs)
 padded_small n cs s = All-append (IsAtMost (2 ^ 60)) cs (zeros (n - length cs)) s (zeros_small (n - length cs))
 
-neg_times : (a x : ℤ) → neg_ℤ a *ℤ x ≡ neg_ℤ (a *ℤ x)
+pub neg_times : (a x : ℤ) → neg_ℤ a *ℤ x ≡ neg_ℤ (a *ℤ x)
 neg_times a x =
     let z : neg_ℤ a +ℤ a ≡ pos 0 = omega (arith, ints) in
     let e : (neg_ℤ a +ℤ a) *ℤ x ≡ pos 0 = ap (λ t. t *ℤ x) z ∙ zero-*ℤ x in
