@@ -62,16 +62,16 @@ module _ (f : Form) (coefs : List ℤ) (constant : ℤ) (is : form coefs constan
           let g = ap (λ cs. dot cs (drop iters z)) (e ∙ same_coefs) in
           omega (arith, ints, a z, b z, d z, g, n, same_constant))) h
 
-  pub below_value : (m : ℕ) (k l : ℤ) (more c0 c1 c2 c3 : List ℤ) (iters turn one : ℕ) (r : Made) → more ≡ coefs → k ≡ pos m → SumsTo c0 (λ z. pos 0)
+  pub below_value : (m : ℕ) (k l top : ℤ) → l ≡ top → (more c0 c1 c2 c3 : List ℤ) (iters turn one : ℕ) (r : Made) → more ≡ coefs → k ≡ pos m → SumsTo c0 (λ z. pos 0)
       → SumsTo c1 (λ z. dot c0 z -ℤ dot more (drop iters z)) → SumsTo c2 (λ z. dot c1 z +ℤ (k *ℤ at z turn)) → SumsTo c3 (λ z. dot c2 z +ℤ (l *ℤ at z one))
-      → IfOk r (λ row. (z : List ℤ) → value row z ≡ neg_ℤ constant +ℤ dot c3 z)
-      → IfOk r (λ row. (z : List ℤ) → at z one ≡ pos 1 → value row z ≡ l -ℤ (value f (drop iters z) -ℤ pos m *ℤ at z turn))
-  below_value m k l more c0 c1 c2 c3 iters turn one r e i a b d g h =
-      ok_values_at r one (λ z. neg_ℤ constant +ℤ dot c3 z) (λ z. l -ℤ (value f (drop iters z) -ℤ pos m *ℤ at z turn))
+      → IfOk r (λ row. (z : List ℤ) → value row z ≡ (pos 0 -ℤ constant) +ℤ dot c3 z)
+      → IfOk r (λ row. (z : List ℤ) → at z one ≡ pos 1 → value row z ≡ top -ℤ (value f (drop iters z) -ℤ pos m *ℤ at z turn))
+  below_value m k l top same more c0 c1 c2 c3 iters turn one r e i a b d g h =
+      ok_values_at r one (λ z. (pos 0 -ℤ constant) +ℤ dot c3 z) (λ z. top -ℤ (value f (drop iters z) -ℤ pos m *ℤ at z turn))
       (λ z u. (let n = ap (λ t. t *ℤ at z turn) i in
           let o = ap (λ t. l *ℤ t) u ∙ times_one l in
           let q = ap (λ cs. dot cs (drop iters z)) (e ∙ same_coefs) in
-          omega (arith, ints, a z, b z, d z, g z, q, n, o, same_constant))) h
+          omega (arith, ints, a z, b z, d z, g z, q, n, o, same_constant, same))) h
     where
       times_one : (l : ℤ) → l *ℤ pos 1 ≡ l
       times_one l = Rattle.std.proofs.Math.IntN.*ℤ_comm l (pos 1) ∙ one_times l
