@@ -24,10 +24,10 @@ use Rattle.ch_space.proofs.Membership.{box_points_in, filter_in, in_box_points, 
 
 -- the two ways to lie in ranges
 
-le_true : (a b : ℤ) → a ≤ℤ b → int_le a b ≡ true
+pub le_true : (a b : ℤ) → a ≤ℤ b → int_le a b ≡ true
 le_true a b h = grind (arith, ints)
 
-true_le : (a b : ℤ) → int_le a b ≡ true → a ≤ℤ b
+pub true_le : (a b : ℤ) → int_le a b ≡ true → a ≤ℤ b
 true_le a b h = grind (arith, ints)
 
 pub inside_lies : (boxes : List Range) (z : List ℤ) → InBox boxes z → IsTrue (lies_in boxes z)

@@ -5,3 +5,4 @@ pub mod Comparisons
 pub mod Remainders
 pub mod Layouts
 pub mod RowValues
+pub mod Steps
