@@ -6,3 +6,5 @@ pub mod Remainders
 pub mod Layouts
 pub mod RowValues
 pub mod Steps
+pub mod Commons
+pub mod Meetings

@@ -130,6 +130,10 @@ module _ (p : Piece) (old now next : Draft) (levels hidden k : ℕ) (f d row : F
             (s.0, subst (λ x. pos 0 ≤ℤ x) (sym (row_here z n)) (true_le (pos 0) (value f (Whole p levels hidden z)) s.1))),
       ))
 
+pub levels_same : (f row : Form) (n m levels hidden : ℕ) → n ≡ m → ((z : List ℤ) → value row z ≡ f.constant +ℤ (dot (take n f.coefs) (drop levels z) +ℤ dot (drop n f.coefs) (drop hidden z)))
+    → (z : List ℤ) → value row z ≡ f.constant +ℤ (dot (take m f.coefs) (drop levels z) +ℤ dot (drop m f.coefs) (drop hidden z))
+levels_same f row n m levels hidden e v z = v z ∙ ap (λ j. f.constant +ℤ (dot (take j f.coefs) (drop levels z) +ℤ dot (drop j f.coefs) (drop hidden z))) e
+
 pub hold_all : (p : Piece) (old now : Draft) (levels hidden k : ℕ) → length p.system.rows ≤ k → Narrows old now (HeldUpTo k p levels hidden) → Narrows old now (HoldsAt p levels hidden)
 hold_all p old now levels hidden k l a =
     subst (λ rows. Narrows old now (λ z. IsTrue (all_hold rows (Whole p levels hidden z)))) (take_all k p.system.rows l) a
@@ -173,7 +177,7 @@ module _ (a b : Access) (here there : Site) (k : ℕ) (s t : Sub) (is : (d : Sub
   abbrev Now : List ℤ → Type 0
   Now z = IsSame s t (drop here.iters z) (drop there.iters z) (at z (here.turns + k)) (at z (there.turns + k))
 
-  same_one_more : (z : List ℤ) → SameUpTo k a b here there z → Now a b here there k s t is are z → SameUpTo (k + 1) a b here there z
+  same_one_more : (z : List ℤ) → SameUpTo k a b here there z → Now z → SameUpTo (k + 1) a b here there z
   same_one_more z h n j d e l = by (cases_lt j k)
     where
       by : (j < k) ⊎ (k ≤ j) → IsSame (get_or a.subs j d) (get_or b.subs j e) (drop here.iters z) (drop there.iters z) (at z (here.turns + j)) (at z (there.turns + j))
@@ -183,10 +187,10 @@ module _ (a b : Access) (here there : Site) (k : ℕ) (s t : Sub) (is : (d : Sub
           (subst (λ x. IsSame x (get_or b.subs k e) (drop here.iters z) (drop there.iters z) (at z (here.turns + k)) (at z (there.turns + k))) (is d)
           (subst (λ x. IsSame s x (drop here.iters z) (drop there.iters z) (at z (here.turns + k)) (at z (there.turns + k))) (are e) n)))
 
-  pub same_more : (old now next : Draft) → Narrows old now (SameUpTo k a b here there) → Narrows now next (Now a b here there k s t is are) → Narrows old next (SameUpTo (k + 1) a b here there)
+  pub same_more : (old now next : Draft) → Narrows old now (SameUpTo k a b here there) → Narrows now next Now → Narrows old next (SameUpTo (k + 1) a b here there)
   same_more old now next x y =
-      narrowed_as old next (λ z. SameUpTo k a b here there z × Now a b here there k s t is are z) (SameUpTo (k + 1) a b here there)
-      (narrowed_twice old now next (SameUpTo k a b here there) (Now a b here there k s t is are) x y)
+      narrowed_as old next (λ z. SameUpTo k a b here there z × Now z) (SameUpTo (k + 1) a b here there)
+      (narrowed_twice old now next (SameUpTo k a b here there) Now x y)
       (λ z n. (
         λ h. same_one_more z h.0 h.1,
         λ h. (

@@ -51,6 +51,16 @@ AreMeeting p q a b iters z =
     × SameUpTo (length a.subs) a b (first_site p q iters) (second_site p q a iters) z
     × PairAt p q 0 z
 
+-- the variable behind those of an access, which is 1
+abbrev pub cells_end : Piece → Piece → Access → Access → ℕ → ℕ
+cells_end p q a b iters =
+    iters + length p.origin + length q.origin + length a.subs + length b.subs
+
+-- and their values are in the order
+abbrev pub AreMeetingBy : Order → Piece → Piece → Access → Access → List ℤ → Type 0
+AreMeetingBy o p q a b z =
+    InOrder o (drop 0 z) (drop p.levels z) × AreMeeting p q a b (pair_size p q) z
+
 -- two instances in the order whose accesses name one cell
 pub record IsMeetingBy (o : Order) (p q : Piece) (a b : Access) (xs ys : List ℤ) : Type 0 where
   pub first : In xs (instances p)
