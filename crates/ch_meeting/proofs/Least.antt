@@ -137,3 +137,8 @@ pushed_both old mid new row other i l o b e c f =
       λ p. (let v = value_opposite row other z o in let g = p.0 in let h = p.1 in omega (arith, ints)),
       λ h. (let v = value_opposite row other z o in (omega (arith, ints), omega (arith, ints))),
     ))
+
+pub narrowed_thrice : (old one two new : Draft) (P Q R : List ℤ → Type 0) → Narrows old one P → Narrows one two Q → Narrows two new R → Narrows old new (λ z. P z × Q z × R z)
+narrowed_thrice old one two new P Q R a b c =
+    narrowed_as old new (λ z. P z × (Q z × R z)) (λ z. P z × Q z × R z) (narrowed_twice old one new P (λ z. Q z × R z) a (narrowed_twice one two new Q R b c))
+    (λ z n. (λ h. (h.0, h.1.0, h.1.1), λ h. (h.0, (h.1, h.2))))
