@@ -142,3 +142,9 @@ pub narrowed_thrice : (old one two new : Draft) (P Q R : List ℤ → Type 0) �
 narrowed_thrice old one two new P Q R a b c =
     narrowed_as old new (λ z. P z × (Q z × R z)) (λ z. P z × Q z × R z) (narrowed_twice old one new P (λ z. Q z × R z) a (narrowed_twice one two new Q R b c))
     (λ z n. (λ h. (h.0, h.1.0, h.1.1), λ h. (h.0, (h.1, h.2))))
+
+pub narrowed_four : (old one two three new : Draft) (P Q R S : List ℤ → Type 0) → Narrows old one P → Narrows one two Q → Narrows two three R → Narrows three new S
+    → Narrows old new (λ z. P z × Q z × R z × S z)
+narrowed_four old one two three new P Q R S a b c d =
+    narrowed_as old new (λ z. P z × (Q z × R z × S z)) (λ z. P z × Q z × R z × S z) (narrowed_twice old one new P (λ z. Q z × R z × S z) a (narrowed_thrice one two three new Q R S b c d))
+    (λ z n. (λ h. (h.0, h.1.0, h.1.1, h.1.2), λ h. (h.0, (h.1, h.2, h.3))))

@@ -8,3 +8,4 @@ pub mod RowValues
 pub mod Steps
 pub mod Commons
 pub mod Meetings
+pub mod Reversals

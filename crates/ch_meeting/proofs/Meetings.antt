@@ -119,13 +119,13 @@ module _ (p q : Piece) (a b : Access) (w : IsPlain p) (v : IsPlain q) (f : IsAcc
 
 -- values in an order, in a point and in its parts
 
-parts_in : (o : Order) (n m first second : ℕ) (z : List ℤ) → IsWithin n m o → InOrder o (drop first z) (drop second z) → InOrder o (part first n z) (part second m z)
+pub parts_in : (o : Order) (n m first second : ℕ) (z : List ℤ) → IsWithin n m o → InOrder o (drop first z) (drop second z) → InOrder o (part first n z) (part second m z)
 parts_in o n m first second z w i = record {
   same = λ k l. get_or-take n (drop first z) k (pos 0) (let x = w.first in omega arith) ∙ i.same k l ∙ sym (get_or-take m (drop second z) k (pos 0) (let x = w.second in omega arith));
   less = λ t. (let x = get_or-take n (drop first z) o.equal (pos 0) (w.next_first t) in let y = get_or-take m (drop second z) o.equal (pos 0) (w.next_second t) in let h = i.less t in omega (arith, ints));
 }
 
-in_parts : (o : Order) (n m first second : ℕ) (z : List ℤ) → IsWithin n m o → InOrder o (part first n z) (part second m z) → InOrder o (drop first z) (drop second z)
+pub in_parts : (o : Order) (n m first second : ℕ) (z : List ℤ) → IsWithin n m o → InOrder o (part first n z) (part second m z) → InOrder o (drop first z) (drop second z)
 in_parts o n m first second z w i = record {
   same = λ k l. sym (get_or-take n (drop first z) k (pos 0) (let x = w.first in omega arith)) ∙ i.same k l ∙ get_or-take m (drop second z) k (pos 0) (let x = w.second in omega arith);
   less = λ t. (let x = get_or-take n (drop first z) o.equal (pos 0) (w.next_first t) in let y = get_or-take m (drop second z) o.equal (pos 0) (w.next_second t) in let h = i.less t in omega (arith, ints));

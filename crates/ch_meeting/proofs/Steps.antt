@@ -16,6 +16,7 @@ use Rattle.ch_poly.specs.Boxes.{at}
 use Rattle.ch_meeting.specs.declared.cells.Site.{Site}
 use Rattle.ch_meeting.specs.declared.draft.Draft.{Draft}
 use Rattle.ch_meeting.specs.declared.orders.Order.{Order}
+use Rattle.ch_meeting.specs.Asked.{first_site, second_site}
 use Rattle.ch_meeting.specs.Cases.{InOrder}
 use Rattle.ch_meeting.specs.Drafts.{IsDraft, Narrows, part}
 use Rattle.ch_meeting.specs.Placed.{HoldsAt, InModulus, IsSame, SameUpTo, TiedAt, left}
@@ -252,3 +253,12 @@ in_order_next old mid new o first second k row l m e v a b =
     to z h = (let x = get_or-drop first z o.equal (pos 0) in let y = get_or-drop second z o.equal (pos 0) in omega (arith, ints, v z))
     from : (z : List ℤ) → at (drop first z) o.equal <ℤ at (drop second z) o.equal → pos 0 ≤ℤ value row z
     from z h = (let x = get_or-drop first z o.equal (pos 0) in let y = get_or-drop second z o.equal (pos 0) in omega (arith, ints, v z))
+
+-- where the parts of two accesses stand
+pub sites_same : (old new : Draft) (n : ℕ) (a b : Access) (p q : Piece) (iters i j k : ℕ) → i ≡ length p.origin → j ≡ length q.origin → k ≡ length a.subs
+    → Narrows old new (SameUpTo n a b (record { iters = iters; turns = iters + i + j }) (record { iters = iters + i; turns = iters + i + j + k }))
+    → Narrows old new (SameUpTo n a b (first_site p q iters) (second_site p q a iters))
+sites_same old new n a b p q iters i j k e f g h =
+    subst (λ u. Narrows old new (SameUpTo n a b (record { iters = iters; turns = iters + u + length q.origin }) (record { iters = iters + u; turns = iters + u + length q.origin + length a.subs }))) e
+    (subst (λ u. Narrows old new (SameUpTo n a b (record { iters = iters; turns = iters + i + u }) (record { iters = iters + i; turns = iters + i + u + length a.subs }))) f
+    (subst (λ u. Narrows old new (SameUpTo n a b (record { iters = iters; turns = iters + i + j }) (record { iters = iters + i; turns = iters + i + j + u }))) g h))

@@ -1,12 +1,12 @@
 -- What the drafts of the queries ask of points, and what their answers say, an order of the vectors at a time.
-use Rattle.std.specs.Prelude.{◌≡◌, ◌≤◌, ◌+◌, ◌↔◌, ◌++◌, ◌∷◌, ℕ, suc, ℤ, Bool, true, false, List, Option, length, drop, IsTrue}
+use Rattle.std.specs.Prelude.{◌≡◌, ◌+◌, ◌↔◌, ◌++◌, ℕ, suc, ℤ, Bool, true, false, List, Option, Some, None, length, drop, IsTrue}
 use Rattle.ch_affine.specs.Rows.{lies_in}
 use Rattle.ch_affine.specs.declared.system.Range.{Range}
 use Rattle.ch_nest.specs.declared.nest.Access.{Access}
 use Rattle.ch_meeting.specs.declared.cells.Site.{Site}
 use Rattle.ch_meeting.specs.declared.draft.Draft.{Draft}
 use Rattle.ch_meeting.specs.declared.orders.Order.{Order}
-use Rattle.ch_meeting.specs.Cases.{InOrder}
+use Rattle.ch_meeting.specs.Cases.{InOrder, OneOf}
 use Rattle.ch_meeting.specs.Drafts.{Fits, IsDraft}
 use Rattle.ch_meeting.specs.Meeting.{iters_at}
 use Rattle.ch_meeting.specs.Placed.{PairAt, PairTiedAt, SameUpTo, TiedAt, cell_boxes, pair_boxes, wides}
@@ -14,6 +14,7 @@ use Rattle.ch_space.specs.declared.piece.Piece.{Piece}
 use Rattle.ch_space.specs.Pieces.{instances}
 use Rattle.ch_timed.specs.Conflict.{cell_of}
 use Rattle.ch_timed.specs.Members.{In}
+use Rattle.ch_timed.specs.Vectors.{comes_before}
 
 -- the points that fit are those of the ranges that have the property
 pub record Asks (d : Draft) (boxes : List Range) (P : List ℤ → Type 0) : Type 0 where
@@ -91,3 +92,47 @@ pub record MeetsBy (o : Order) (p q : Piece) (a b : Access) : Type 0 where
   pub first : List ℤ
   pub second : List ℤ
   pub meeting : IsMeetingBy o p q a b first second
+
+-- the second of the two new pieces comes before the first, and their iterators are those that stand there
+abbrev pub AreTurned : Order → Piece → Piece → ℕ → ℕ → ℕ → List ℤ → Type 0
+AreTurned o r s start first second z =
+    InOrder o (drop start z) (drop (start + s.levels) z) × TiedAt s start second z
+    × TiedAt r (start + s.levels) first z × PairAt s r start z
+
+abbrev pub reversal_boxes : Piece → Piece → Piece → Piece → Access → Access → List Range
+reversal_boxes p q r s a b =
+    pair_boxes p q ++ (pair_boxes s r ++ cell_boxes (length p.origin) (length q.origin) a b)
+
+-- where the iterators of both elements stand behind the variables of all four pieces
+abbrev pub reversal_iters : Piece → Piece → Piece → Piece → ℕ
+reversal_iters p q r s = pair_size p q + pair_size s r
+
+abbrev pub AreReversal : Order → Order → Piece → Piece → Piece → Piece → Access → Access → List ℤ → Type 0
+AreReversal o t p q r s a b z =
+    InOrder o (drop 0 z) (drop p.levels z)
+    × AreMeeting p q a b (reversal_iters p q r s) z
+    × AreTurned t r s (pair_size p q) (reversal_iters p q r s)
+        (reversal_iters p q r s + length p.origin) z
+
+-- a pair that meets in the one order and is turned in the other
+abbrev pub IsReversalBy : Order → Order → Piece → Piece → Piece → Piece → Access → Access → List ℤ → List ℤ → Type 0
+IsReversalBy o t p q r s a b xs ys = IsMeetingBy o p q a b xs ys × IsTurnedBy t p q r s xs ys
+
+abbrev pub second_if : Bool → List ℤ → List ℤ → List ℤ
+second_if true a b = b
+second_if false a b = a
+
+-- the lesser of two lists that there may be
+abbrev pub lesser : Option (List ℤ) → Option (List ℤ) → Option (List ℤ)
+lesser None b = b
+lesser (Some a) None = Some a
+lesser (Some a) (Some b) = Some (second_if (comes_before b a) a b)
+
+-- a pair that meets in the order and is turned in one of the others
+abbrev pub IsTurnedAmong : Order → List Order → Piece → Piece → Piece → Piece → Access → Access → List ℤ → List ℤ → Type 0
+IsTurnedAmong o turns p q r s a b xs ys = OneOf (λ t. IsReversalBy o t p q r s a b xs ys) turns
+
+-- a pair that meets in one of the orders and is turned in one of the others
+abbrev pub IsReversalAmong : List Order → List Order → Piece → Piece → Piece → Piece → Access → Access → List ℤ → List ℤ → Type 0
+IsReversalAmong orders turns p q r s a b xs ys =
+    OneOf (λ o. IsTurnedAmong o turns p q r s a b xs ys) orders
