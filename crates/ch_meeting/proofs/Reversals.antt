@@ -20,15 +20,15 @@ use Rattle.ch_timed.specs.Members.{In}
 use Rattle.ch_timed.specs.Vectors.{comes_before, woven}
 use Rattle.ch_meeting.specs.declared.draft.Draft.{Draft}
 use Rattle.ch_meeting.specs.declared.orders.Order.{Order}
-use Rattle.ch_meeting.specs.Asked.{AreReversal, Asks, IsMeetingBy, IsReversalAmong, IsReversalBy, IsTurnedAmong, IsTurnedBy, cells_end, lesser, pair_size, reversal_boxes, reversal_iters, second_if}
+use Rattle.ch_meeting.specs.Asked.{AreMeeting, AreReversal, AreTurned, Asks, IsMeetingBy, IsReversalAmong, IsReversalBy, IsTurnedAmong, IsTurnedBy, cells_end, lesser, pair_size, reversal_boxes, reversal_iters, second_if}
 use Rattle.ch_meeting.specs.Cases.{InOrder, IsWithin, OneOf}
-use Rattle.ch_meeting.specs.Drafts.{IsLeastFit, part}
+use Rattle.ch_meeting.specs.Drafts.{IsLeastFit, Narrows, part}
 use Rattle.ch_meeting.specs.Meeting.{ComesBefore, IsAccessOf, IsLeastPair, IsMeeting, IsPlain, IsReversal, IsTurned, iters_at}
 use Rattle.ch_meeting.specs.Placed.{cell_boxes, pair_boxes}
 use Rattle.ch_meeting.proofs.Commons.{held_there, iters_long, none_before, pair_long, tied_there}
 use Rattle.ch_meeting.proofs.Comparisons.{Exact}
 use Rattle.ch_meeting.proofs.Layouts.{cell_each, pair_each}
-use Rattle.ch_meeting.proofs.Least.{inside_lies, lies_inside}
+use Rattle.ch_meeting.proofs.Least.{inside_lies, lies_inside, narrowed_thrice}
 use Rattle.ch_meeting.proofs.Meetings.{Brought, Turns, brought, cell_long, cell_one, first_turns, in_parts, meeting_here, meeting_there, pair_inside, parts_in, rest_inside, second_turns}
 use Rattle.ch_meeting.proofs.Parts.{behind_at, pair_instances, split_at}
 use Rattle.ch_meeting.proofs.Steps.{long_point}
@@ -38,6 +38,7 @@ use Rattle.ch_space.specs.Keeps.{IsWhole, places_of}
 use Rattle.ch_space.specs.Pieces.{instances}
 use Rattle.ch_space.proofs.EndsOf.{take_up_to}
 use Rattle.ch_space.proofs.Followings.{is_less}
+use Rattle.ch_space.proofs.Membership.{append_left, append_right, in_append}
 use Rattle.ch_space.proofs.PieceElements.{levels_of}
 use Rattle.std.specs.FinMap.{int_cmp-IsAntisymmetric}
 
@@ -222,21 +223,26 @@ Among P os xs ys = OneOf (λ o. P o xs ys) os
 pub least_none : (n : ℕ) (P : Order → List ℤ → List ℤ → Type 0) → IsLeastPair n (Among P []) None
 least_none n P = λ xs ys k. k.1.0
 
-pub least_more : (n : ℕ) (P : Order → List ℤ → List ℤ → Type 0) (os : List Order) (k : ℕ) (o : Order) (old new now : Option (List ℤ)) → k < length os → o ≡ get_or os k o
-    → IsLeastPair n (Among P (take k os)) old → IsLeastPair n (P o) new → now ≡ lesser old new → IsLeastPair n (Among P (take (k + 1) os)) now
-least_more n P os k o old new now l is h g e =
-    let more : take (k + 1) os ≡ take k os ++ o ∷ [] = take_more os k o l ∙ ap (λ c. take k os ++ c ∷ []) (sym is) in
-    subst (IsLeastPair n (Among P (take (k + 1) os))) (sym e)
-    (subst (λ c. IsLeastPair n (Among P c) (lesser old new)) (sym more)
-    (lesser_is n (Among P (take k os)) (P o) (Among P (take k os ++ o ∷ []))
-    (λ xs ys c. (c.0, (Rattle.ch_space.proofs.Membership.append_left (take k os) (o ∷ []) c.0 c.1.0, c.1.1)))
-    (λ xs ys c. (o, (Rattle.ch_space.proofs.Membership.append_right (take k os) (o ∷ []) o (inl refl), c)))
-    (λ xs ys c. last xs ys c.0 c.1.1 (Rattle.ch_space.proofs.Membership.in_append (take k os) (o ∷ []) c.0 c.1.0)) old new h g))
+least_joined : (n : ℕ) (P : Order → List ℤ → List ℤ → Type 0) (os : List Order) (o : Order) (old new : Option (List ℤ)) → IsLeastPair n (Among P os) old → IsLeastPair n (P o) new
+    → IsLeastPair n (Among P (os ++ o ∷ [])) (lesser old new)
+least_joined n P os o old new h g =
+    lesser_is n (Among P os) (P o) (Among P (os ++ o ∷ []))
+    (λ xs ys c. (c.0, (append_left os (o ∷ []) c.0 c.1.0, c.1.1)))
+    (λ xs ys c. (o, (append_right os (o ∷ []) o (inl refl), c)))
+    (λ xs ys c. last xs ys c.0 c.1.1 (in_append os (o ∷ []) c.0 c.1.0)) old new h g
   where
-    last : (xs ys : List ℤ) (c : Order) → P c xs ys → In c (take k os) ⊎ In c (o ∷ []) → Among P (take k os) xs ys ⊎ P o xs ys
+    last : (xs ys : List ℤ) (c : Order) → P c xs ys → In c os ⊎ In c (o ∷ []) → Among P os xs ys ⊎ P o xs ys
     last xs ys c h (inl i) = inl (c, (i, h))
     last xs ys c h (inr (inl e)) = inr (subst (λ d. P d xs ys) (sym e) h)
     last xs ys c h (inr (inr i)) = absurd i
+
+pub least_more : (n : ℕ) (P : Order → List ℤ → List ℤ → Type 0) (os : List Order) (k : ℕ) (d : Order) (old new now : Option (List ℤ)) → k < length os
+    → IsLeastPair n (Among P (take k os)) old → IsLeastPair n (P (get_or os k d)) new → now ≡ lesser old new → IsLeastPair n (Among P (take (k + 1) os)) now
+least_more n P os k d old new now l h g e =
+    let o : Order = get_or os k d in
+    let more : take (k + 1) os ≡ take k os ++ get_or os k d ∷ [] = take_more os k d l in
+    subst (IsLeastPair n (Among P (take (k + 1) os))) (sym e)
+    (subst (λ c. IsLeastPair n (Among P c) (lesser old new)) (sym more) (least_joined n P (take k os) (get_or os k d) old new h g))
 
 pub least_all : (n : ℕ) (P : Order → List ℤ → List ℤ → Type 0) (os : List Order) (k : ℕ) (now : Option (List ℤ)) → length os ≤ k → IsLeastPair n (Among P (take k os)) now → IsLeastPair n (Among P os) now
 least_all n P os k now l h = subst (λ c. IsLeastPair n (Among P c) now) (take_all k os l) h
@@ -329,3 +335,13 @@ module _ (p q r s : Piece) (a b : Access) where
 
   pub no_second : (length s.origin ≡ length q.origin → ⊥) → IsLeastPair p.levels (IsReversal p q r s a b) None
   no_second h = λ xs ys k. h (sym (iters_long s k.1.second) ∙ ap length k.1.same_second ∙ iters_long q ys)
+
+  pub reversal_asked : (old one two new : Draft) (o t : Order) (i j k : ℕ) → i ≡ pair_size p q → j ≡ pair_size s r → k ≡ length p.origin
+      → Narrows old one (λ z. InOrder o (drop 0 z) (drop p.levels z)) → Narrows one two (AreMeeting p q a b (i + j)) → Narrows two new (AreTurned t r s i (i + j) (i + j + k))
+      → Narrows old new (AreReversal o t p q r s a b)
+  reversal_asked old one two new o t i j k e f g x y z =
+      narrowed_thrice old one two new (λ z. InOrder o (drop 0 z) (drop p.levels z)) (AreMeeting p q a b (reversal_iters p q r s))
+      (AreTurned t r s (pair_size p q) (reversal_iters p q r s) (reversal_iters p q r s + length p.origin)) x
+      (subst (λ n. Narrows one two (AreMeeting p q a b n)) (ap₂ (λ m n. m + n) e f) y)
+      (subst (λ m. Narrows two new (AreTurned t r s m (pair_size p q + pair_size s r) (pair_size p q + pair_size s r + length p.origin))) e
+      (subst (λ m. Narrows two new (AreTurned t r s i m (m + length p.origin))) (ap₂ (λ m n. m + n) e f) (subst (λ m. Narrows two new (AreTurned t r s i (i + j) (i + j + m))) g z)))
