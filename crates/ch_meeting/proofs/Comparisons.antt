@@ -2,7 +2,7 @@
 use Rattle.std.proofs.Common.{◌≡◌, refl, sym, ap, ap₂, ◌∙◌, subst, ℕ, zero, suc, ◌+◌, ◌<◌, ◌≤◌, ℤ, pos, ◌<ℤ◌, ◌↔◌, Bool, true, false, nat_lt, if◌then◌else◌, List, [], ◌∷◌, ◌++◌, length, map, get_or, ◌⊎◌, inl, inr, arith, append_assoc}
 use Rattle.std.specs.Bool.{IsTrue}
 use Rattle.std.specs.List.{All}
-use Rattle.std.specs.Ordering.{int_cmp, is_lt, ordering_then, MatchOrdering}
+use Rattle.std.specs.Ordering.{int_cmp, int_eq, is_lt, ordering_then, MatchOrdering}
 use Rattle.std.specs.declared.cmp.Ordering.{Ordering}
 use Rattle.std.specs.declared.cmp.Ordering.TheVariants.{Less, Equal, Greater}
 use Rattle.std.specs.Cmp.{tied_itself, int_cmp_total, int_ranked}
@@ -15,6 +15,8 @@ use Rattle.ch_timed.specs.Members.{In}
 use Rattle.ch_timed.specs.Vectors.{comes_before, woven}
 use Rattle.ch_timed.proofs.Orders.{map_in, in_map, not_both}
 use Rattle.ch_meeting.specs.declared.orders.Order.{Order}
+use Rattle.ch_meeting.specs.Asked.{level_by}
+use Rattle.ch_meeting.specs.Meeting.{differing_level}
 use Rattle.ch_meeting.specs.Cases.{InOrder, IsWithin, OneOf, always, at_once, behind, from_values, orders_of}
 use Rattle.ch_space.proofs.Followings.{is_less}
 use Rattle.ch_space.proofs.PieceElements.{Comes, less_comes}
@@ -222,3 +224,84 @@ step_more first second p q n (x ∷ ps) (y ∷ qs) old mid new e f g h i j k l =
     let those : map (behind n) (orders_of first second) ≡ record { equal = n; less = true } ∷ map (behind (n + 1)) later =
     ap₂ (λ a b. map (behind n) (orders_of a b)) e f ∙ ap (map (behind n)) (if_same p q (x ∷ ps) (y ∷ qs) (omega arith)) ∙ ap₂ (λ a b. a ∷ b) now (behind_more n later) in
     l ∙ ap (λ t. t ++ map (behind (n + 1)) later) k ∙ append_assoc old (record { equal = n; less = true } ∷ []) (map (behind (n + 1)) later) ∙ ap (λ t. old ++ t) (sym those)
+
+-- the level by which vectors in an order differ
+
+abbrev pub level_at : ℕ → Bool → ℕ → ℕ
+level_at n true equal = n + equal
+level_at n false equal = 0
+
+level_behind : (n : ℕ) (less : Bool) (equal : ℕ) → level_at (suc n) less equal ≡ level_at n less (equal + 1)
+level_behind n true equal = omega arith
+level_behind n false equal = refl
+
+pub level_is : (less : Bool) (equal : ℕ) → level_at 1 less equal ≡ level_by less equal
+level_is true equal = omega arith
+level_is false equal = refl
+
+ints_differ : (x y : ℤ) → (x ≡ y → ⊥) → int_eq x y ≡ false
+ints_differ x y h = grind (arith, ints)
+
+ints_agree : (x y : ℤ) → x ≡ y → int_eq x y ≡ true
+ints_agree x y h = grind (arith, ints)
+
+place_differs : (n p q : ℕ) (ps qs : List ℕ) (xs ys : List ℤ) → (pos p ≡ pos q → ⊥) → differing_level n (woven (map pos (p ∷ ps)) xs) (woven (map pos (q ∷ qs)) ys) ≡ 0
+place_differs n p q ps qs [] [] h = refl
+place_differs n p q ps qs [] (y ∷ ys) h = refl
+place_differs n p q ps qs (x ∷ xs) [] h = refl
+place_differs n p q ps qs (x ∷ xs) (y ∷ ys) h =
+    ap (λ c. if c then (if int_eq x y then differing_level (suc n) (woven (map pos ps) xs) (woven (map pos qs) ys) else n) else 0) (ints_differ (pos p) (pos q) h)
+
+place_agrees : (n p q : ℕ) (ps qs : List ℕ) (x y : ℤ) (xs ys : List ℤ) → p ≡ q → differing_level n (woven (map pos (p ∷ ps)) (x ∷ xs)) (woven (map pos (q ∷ qs)) (y ∷ ys))
+    ≡ (if int_eq x y then differing_level (suc n) (woven (map pos ps) xs) (woven (map pos qs) ys) else n)
+place_agrees n p q ps qs x y xs ys h =
+    ap (λ c. if c then (if int_eq x y then differing_level (suc n) (woven (map pos ps) xs) (woven (map pos qs) ys) else n) else 0) (ints_agree (pos p) (pos q) (ap pos h))
+
+abbrev Differs : ℕ → List ℕ → List ℕ → List ℤ → List ℤ → Order → Type 0
+Differs n ps qs xs ys o = differing_level n (woven (map pos ps) xs) (woven (map pos qs) ys) ≡ level_at n o.less o.equal
+
+abbrev Levelled : List ℕ → List ℕ → Type 0
+Levelled ps qs = (n : ℕ) (xs ys : List ℤ) → length ps ≡ length xs + 1 → length qs ≡ length ys + 1 → (o : Order) → In o (orders_of ps qs) → InOrder o xs ys → Differs n ps qs xs ys o
+
+values_levelled : (n p q : ℕ) (ps qs : List ℕ) (xs ys : List ℤ) (o : Order) → Levelled ps qs → length ps ≡ length xs → length qs ≡ length ys → p ≡ q → In o (from_values ps qs (orders_of ps qs))
+    → InOrder o xs ys → Differs n (p ∷ ps) (q ∷ qs) xs ys o
+values_levelled n p q ps [] xs ys o later l m e i k = absurd i
+values_levelled n p q [] (b ∷ qs) [] [] o later l m e i k = absurd (omega arith)
+values_levelled n p q [] (b ∷ qs) [] (y ∷ ys) o later l m e (inl s) k = subst (λ t. 0 ≡ level_at n t.less t.equal) s refl
+values_levelled n p q [] (b ∷ qs) [] (y ∷ ys) o later l m e (inr i) k = absurd i
+values_levelled n p q [] (b ∷ qs) (x ∷ xs) ys o later l m e i k = absurd (omega arith)
+values_levelled n p q (a ∷ ps) (b ∷ qs) [] ys o later l m e i k = absurd (omega arith)
+values_levelled n p q (a ∷ ps) (b ∷ qs) (x ∷ xs) [] o later l m e i k = absurd (omega arith)
+values_levelled n p q (a ∷ ps) (b ∷ qs) (x ∷ xs) (y ∷ ys) o later l m e (inl s) k =
+    let less : x <ℤ y = (subst (λ t. InOrder t (x ∷ xs) (y ∷ ys)) (sym s) k).less refl in
+    place_agrees n p q (a ∷ ps) (b ∷ qs) x y xs ys e
+    ∙ ap (λ c. if c then differing_level (suc n) (woven (map pos (a ∷ ps)) xs) (woven (map pos (b ∷ qs)) ys) else n) (ints_differ x y (λ f. absurd (omega (arith, ints))))
+    ∙ subst (λ t. n ≡ level_at n t.less t.equal) s (omega arith)
+values_levelled n p q (a ∷ ps) (b ∷ qs) (x ∷ xs) (y ∷ ys) o later l m e (inr i) k =
+    let r = in_map (behind 1) (orders_of (a ∷ ps) (b ∷ qs)) o i in
+    let c = in_later x y xs ys r.0 (subst (λ t. InOrder t (x ∷ xs) (y ∷ ys)) (sym r.1.1) k) in
+    place_agrees n p q (a ∷ ps) (b ∷ qs) x y xs ys e
+    ∙ ap (λ c. if c then differing_level (suc n) (woven (map pos (a ∷ ps)) xs) (woven (map pos (b ∷ qs)) ys) else n) (ints_agree x y c.0)
+    ∙ later (suc n) xs ys (omega arith) (omega arith) r.0 r.1.0 c.1 ∙ level_behind n r.0.less r.0.equal ∙ ap (λ t. level_at n t.less t.equal) r.1.1
+
+levelled_by : (n p q : ℕ) (ps qs : List ℕ) (xs ys : List ℤ) (o : Order) → Levelled ps qs → length ps ≡ length xs → length qs ≡ length ys → (p ≡ q) ⊎ ((p < q) ⊎ (q < p))
+    → In o (orders_of (p ∷ ps) (q ∷ qs)) → InOrder o xs ys → Differs n (p ∷ ps) (q ∷ qs) xs ys o
+levelled_by n p q ps qs xs ys o later l m (inl e) i k = values_levelled n p q ps qs xs ys o later l m e (subst (In o) (if_same p q ps qs e) i) k
+levelled_by n p q ps qs xs ys o later l m (inr (inl h)) i k = only_always n p q ps qs xs ys o h (subst (In o) (if_less p q ps qs h) i)
+  where
+    only_always : (n p q : ℕ) (ps qs : List ℕ) (xs ys : List ℤ) (o : Order) → p < q → In o (always ∷ []) → Differs n (p ∷ ps) (q ∷ qs) xs ys o
+    only_always n p q ps qs xs ys o h (inl s) = place_differs n p q ps qs xs ys (λ f. absurd (omega (arith, ints))) ∙ subst (λ t. 0 ≡ level_at n t.less t.equal) s refl
+    only_always n p q ps qs xs ys o h (inr i) = absurd i
+levelled_by n p q ps qs xs ys o later l m (inr (inr h)) i k = absurd (subst (In o) (if_more p q ps qs h) i)
+
+orders_levelled : (ps qs : List ℕ) → Levelled ps qs
+orders_levelled [] qs n xs ys l m o i k = absurd i
+orders_levelled (p ∷ ps) [] n xs ys l m o i k = absurd i
+orders_levelled (p ∷ ps) (q ∷ qs) n xs ys l m o i k = levelled_by n p q ps qs xs ys o (orders_levelled ps qs) (omega arith) (omega arith) (cases_order p q) i k
+
+abbrev pub AtLevels : List ℕ → List ℕ → List Order → Type 0
+AtLevels ps qs orders = (xs ys : List ℤ) → length ps ≡ length xs + 1 → length qs ≡ length ys + 1 → (o : Order) → In o orders → InOrder o xs ys
+    → differing_level 1 (woven (map pos ps) xs) (woven (map pos qs) ys) ≡ level_by o.less o.equal
+
+pub orders_levels : (ps qs : List ℕ) → AtLevels ps qs (orders_of ps qs)
+orders_levels ps qs xs ys l m o i k = orders_levelled ps qs 1 xs ys l m o i k ∙ level_is o.less o.equal

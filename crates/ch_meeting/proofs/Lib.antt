@@ -9,3 +9,4 @@ pub mod Steps
 pub mod Commons
 pub mod Meetings
 pub mod Reversals
+pub mod Levels

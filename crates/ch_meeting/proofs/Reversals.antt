@@ -345,3 +345,11 @@ module _ (p q r s : Piece) (a b : Access) where
       (subst (λ n. Narrows one two (AreMeeting p q a b n)) (ap₂ (λ m n. m + n) e f) y)
       (subst (λ m. Narrows two new (AreTurned t r s m (pair_size p q + pair_size s r) (pair_size p q + pair_size s r + length p.origin))) e
       (subst (λ m. Narrows two new (AreTurned t r s i m (m + length p.origin))) (ap₂ (λ m n. m + n) e f) (subst (λ m. Narrows two new (AreTurned t r s i (i + j) (i + j + m))) g z)))
+
+  pub reversal_ok : IsWhole p → IsWhole q → IsWhole r → IsWhole s → (ps qs ss rs : List ℕ) (ways os turns ts : List Order) → ps ≡ p.places → qs ≡ q.places → ss ≡ s.places → rs ≡ r.places
+      → os ≡ ways → ts ≡ turns → Exact ps qs ways → Exact ss rs turns → (res : Result (Option (List ℤ)) AllocError)
+      → IfOk res (λ point. IsLeastPair p.levels (IsReversalAmong os ts p q r s a b) point) → IfOk res (λ point. IsLeastPair p.levels (IsReversal p q r s a b) point)
+  reversal_ok w v x y ps qs ss rs ways os turns ts c d e f g h exact turned (Err o) k = tt
+  reversal_ok w v x y ps qs ss rs ways os turns ts c d e f g h exact turned (Ok point) k =
+      reversal_all w v x y ways turns (subst (λ i. Exact i q.places ways) c (subst (λ i. Exact ps i ways) d exact)) (subst (λ i. Exact i r.places turns) e (subst (λ i. Exact ss i turns) f turned)) point
+      (subst (λ i. IsLeastPair p.levels (IsReversalAmong i turns p q r s a b) point) g (subst (λ i. IsLeastPair p.levels (IsReversalAmong os i p q r s a b) point) h k))

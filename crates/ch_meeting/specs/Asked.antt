@@ -136,3 +136,7 @@ IsTurnedAmong o turns p q r s a b xs ys = OneOf (λ t. IsReversalBy o t p q r s 
 abbrev pub IsReversalAmong : List Order → List Order → Piece → Piece → Piece → Piece → Access → Access → List ℤ → List ℤ → Type 0
 IsReversalAmong orders turns p q r s a b xs ys =
     OneOf (λ o. IsTurnedAmong o turns p q r s a b xs ys) orders
+
+-- the order has that level, and some instances in it meet
+abbrev pub MeetsByAt : ℕ → Piece → Piece → Access → Access → Order → Type 0
+MeetsByAt level p q a b o = (level_by o.less o.equal ≡ level) × MeetsBy o p q a b

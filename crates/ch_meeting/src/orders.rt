@@ -4,6 +4,10 @@
 ghost use Rattle.std.specs.Prelude.{◌≡◌, ◌≤◌, ◌<◌, ◌+◌, ◌^◌, ◌+ℤ◌, ◌-ℤ◌, ◌++◌, length, map, drop, pos, IfOk, IsTrue, OnOk, ◌↔◌, ℕ, ℤ, List};
 ghost use Rattle.std.specs.List.{All};
 ghost use Rattle.ch_affine.specs.Affine.{IsAtMost, value};
+ghost use Rattle.ch_meeting.specs.declared.orders.Order.{Order};
+ghost use Rattle.ch_meeting.specs.Asked.{level_by};
+ghost use Rattle.ch_meeting.specs.Meeting.{differing_level};
+ghost use Rattle.ch_timed.specs.Members.{In};
 ghost use Rattle.ch_meeting.specs.Cases.{InOrder, IsWithin, OneOf, behind, orders_of};
 ghost use Rattle.ch_meeting.specs.Drafts.{IsDraft, Narrows};
 ghost use Rattle.ch_poly.specs.Boxes.{at};
@@ -18,6 +22,16 @@ use std::alloc::{AllocError, Global};
 pub(crate) struct Order {
     pub(crate) equal: u32,
     pub(crate) less: bool,
+}
+
+impl Order {
+    /// The level by which vectors in the order first differ, 0 for a place.
+    pub(crate) fn level(self) -> u32
+        requires { IsTrue self.less → self.equal + 1 < 2 ^ 32 }
+        ensures { result ≡ level_by self.less self.equal }
+    {
+        if self.less { self.equal + 1 } else { 0 }
+    }
 }
 
 /// Adds the orders of values behind `equal` ones that are the same.
@@ -56,6 +70,10 @@ pub(crate) fn orders(alloc: Global, first: &[u32], second: &[u32]) -> Result<Lis
         ↔ OneOf (λ o. InOrder o xs ys) orders) }
     ensures within { IfOk result (λ orders. (n m : ℕ) → length first.now ≡ n + 1
         → length second.now ≡ m + 1 → All (IsWithin n m) orders) }
+    ensures levels { IfOk result (λ orders. (xs ys : List ℤ) → length first.now ≡ length xs + 1
+        → length second.now ≡ length ys + 1 → (o : Order) → In o orders → InOrder o xs ys
+        → differing_level 1 (woven (map pos first.now) xs) (woven (map pos second.now) ys)
+        ≡ level_by o.less o.equal) }
 {
     let mut orders = List::new(alloc);
     push_orders(&mut orders, 0, first, second)?;

@@ -1,7 +1,7 @@
 ghost use Rattle.std.specs.Prelude.{◌≡◌, ◌≤◌, ◌<◌, ◌+◌, ◌↔◌, ◌++◌, ℤ, List, length, pos, IfOk, IsTrue, OnOk};
 ghost use Rattle.ch_affine.specs.Rows.{lies_in};
-ghost use Rattle.ch_meeting.specs.Asked.{AreCommon, AreMeeting, AreMeetingBy, AreReversal, AreTurned, Asks, IsReversalAmong, IsReversalBy, IsTurnedAmong, MeetsBy, cells_end, common_boxes, lesser, level_by, meeting_boxes, pair_size, reversal_boxes};
-ghost use Rattle.ch_meeting.specs.Cases.{InOrder, IsWithin};
+ghost use Rattle.ch_meeting.specs.Asked.{AreCommon, AreMeeting, AreMeetingBy, AreReversal, AreTurned, Asks, IsReversalAmong, IsReversalBy, IsTurnedAmong, MeetsBy, MeetsByAt, cells_end, common_boxes, lesser, meeting_boxes, pair_size, reversal_boxes};
+ghost use Rattle.ch_meeting.specs.Cases.{IsWithin, OneOf};
 ghost use Rattle.ch_meeting.specs.Drafts.{IsDraft, Narrows};
 ghost use Rattle.ch_meeting.specs.Meeting.{HaveCommon, IsAccessOf, IsLeastPair, IsPlain, IsReversal, MeetsAt};
 ghost use Rattle.ch_meeting.specs.Placed.{PairAt, PairTiedAt};
@@ -88,7 +88,14 @@ pub fn meets_at(
     ensures { IfOk result (λ answer. IsTrue answer
         ↔ MeetsAt first.now second.now access.now other.now level) }
 {
-    Err(AllocError)
+    if access.array != other.array {
+        return Ok(false);
+    }
+    if access.subs.len() != other.subs.len() {
+        return Ok(false);
+    }
+    let ways = orders(alloc, first.places.as_slice(), second.places.as_slice())?;
+    meets_among(alloc, first, second, access, other, ways.as_slice(), level)
 }
 
 fn common_ranges(alloc: Global, first: &Piece, second: &Piece) -> Result<List<Range>, AllocError>
@@ -517,4 +524,58 @@ fn least_ordered(
         least = lesser(least, next);
     }
     Ok(least)
+}
+
+/// Whether the order has that level, and some elements in it meet.
+fn meets_by_at(
+    alloc: Global,
+    first: &Piece,
+    second: &Piece,
+    access: &Access,
+    other: &Access,
+    order: Order,
+    level: u32,
+) -> Result<bool, AllocError>
+    requires first { IsPlain first.now }
+    requires second { IsPlain second.now }
+    requires access { IsAccessOf first.now access.now }
+    requires other { IsAccessOf second.now other.now }
+    requires array { access.now.array ≡ other.now.array }
+    requires same { length access.now.subs ≡ length other.now.subs }
+    requires within { IsWithin first.now.levels second.now.levels order }
+    ensures { IfOk result (λ answer. IsTrue answer
+        ↔ MeetsByAt level first.now second.now access.now other.now order) }
+{
+    if order.level() != level {
+        return Ok(false);
+    }
+    meets_by(alloc, first, second, access, other, order)
+}
+
+/// Whether some elements in one of the orders meet that has this level.
+fn meets_among(
+    alloc: Global,
+    first: &Piece,
+    second: &Piece,
+    access: &Access,
+    other: &Access,
+    orders: &[Order],
+    level: u32,
+) -> Result<bool, AllocError>
+    requires first { IsPlain first.now }
+    requires second { IsPlain second.now }
+    requires access { IsAccessOf first.now access.now }
+    requires other { IsAccessOf second.now other.now }
+    requires array { access.now.array ≡ other.now.array }
+    requires same { length access.now.subs ≡ length other.now.subs }
+    requires within { All (IsWithin first.now.levels second.now.levels) orders.now }
+    ensures { IfOk result (λ answer. IsTrue answer
+        ↔ OneOf (MeetsByAt level first.now second.now access.now other.now) orders.now) }
+{
+    for order in orders {
+        if meets_by_at(alloc, first, second, access, other, *order, level)? {
+            return Ok(true);
+        }
+    }
+    Ok(false)
 }
