@@ -1,12 +1,11 @@
 -- Drafts of queries, and the pairs that have the same iterators.
-use Rattle.std.proofs.Common.{◌≡◌, refl, sym, ap, ap₂, ◌∙◌, subst, ℕ, zero, suc, ◌+◌, ◌≤◌, ◌^◌, ℤ, pos, Bool, true, Option, Some, None, List, [], ◌∷◌, ◌++◌, length, map, take, drop, is_some, arith, ◌↔◌, append-nil, append_assoc, length-append}
+use Rattle.std.proofs.Common.{◌≡◌, refl, sym, ap, ap₂, ◌∙◌, subst, ℕ, ◌+◌, ◌≤◌, ◌^◌, ℤ, Bool, Option, Some, None, List, [], ◌∷◌, ◌++◌, length, take, drop, is_some, arith, ◌↔◌, append-nil, length-append}
 use Rattle.std.specs.Bool.{IsTrue}
 use Rattle.std.specs.List.{All}
 use Rattle.std.proofs.lemmas.Bool.{both_ways}
 use Rattle.std.proofs.lemmas.List.{length-map}
-use Rattle.std.proofs.lemmas.List.Elements.{All-append, All-same, All-nil}
+use Rattle.std.proofs.lemmas.List.Elements.{All-append, All-nil}
 use Rattle.ch_affine.specs.Affine.{IsAtMost, value}
-use Rattle.ch_affine.specs.Form.{Form}
 use Rattle.ch_affine.specs.Rows.{IsBox, IsSystem, all_hold, lies_in}
 use Rattle.ch_affine.specs.declared.system.Range.{Range}
 use Rattle.ch_poly.proofs.Firsts.{InBox}
@@ -14,9 +13,9 @@ use Rattle.ch_timed.specs.Members.{In}
 use Rattle.ch_timed.proofs.Orders.{map_in}
 use Rattle.ch_meeting.specs.declared.draft.Draft.{Draft}
 use Rattle.ch_meeting.specs.Asked.{AreCommon, Asks, common_boxes, pair_size}
-use Rattle.ch_meeting.specs.Drafts.{Fits, IsDraft, IsLeastFit, Narrows, part}
+use Rattle.ch_meeting.specs.Drafts.{IsDraft, IsLeastFit, Narrows, part}
 use Rattle.ch_meeting.specs.Meeting.{HaveCommon, IsPlain, iters_at}
-use Rattle.ch_meeting.specs.Placed.{HoldsAt, PairAt, TiedAt, pair_boxes, wides}
+use Rattle.ch_meeting.specs.Placed.{HoldsAt, TiedAt, pair_boxes, wides}
 use Rattle.ch_meeting.proofs.Layouts.{length_wides, near_inside, pair_each, wides_boxes}
 use Rattle.ch_meeting.proofs.Least.{inside_lies, lies_inside, narrowed_draft}
 use Rattle.ch_meeting.proofs.Parts.{behind_at, both_inside, hidden_long, hidden_of, joined, levels_long, pair_instances, pair_joined}
@@ -146,13 +145,22 @@ module _ (p q : Piece) (w : IsPlain p) (v : IsPlain q) (same : length p.origin �
       let second : (o : ℕ) → o ≡ p.levels → part o q.levels z ≡ h.second = λ o e. behind_at ws 1 o q.levels (omega arith) (omega arith) (sym b) in
       let third : part (0 + p.levels + q.levels) p.hidden z ≡ f.0 = behind_at ws 2 (0 + p.levels + q.levels) p.hidden (omega arith) (omega arith) (sym c) in
       let fourth : part (0 + p.levels + q.levels + p.hidden) q.hidden z ≡ g.0 = behind_at ws 3 (0 + p.levels + q.levels + p.hidden) q.hidden (omega arith) (omega arith) (sym d) in
-      let fifth : (m : ℕ) → m ≡ length p.origin → part (pair_size p q) m z ≡ iters_at p h.first = λ m e. behind_at ws 4 (pair_size p q) m (omega arith) (omega arith) (e ∙ sym n) in
-      (z, (lies, (
-        (tied_there p 0 (pair_size p q) z h.first (iters_at p h.first) first (fifth (length p.origin) refl) refl,
-            tied_there q p.levels (pair_size p q) z h.second (iters_at p h.first) (second p.levels refl) (fifth (length q.origin) (sym same)) h.same),
-        (held_there p 0 (0 + p.levels + q.levels) z h.first f.0 first third f.1.1.1,
-            held_there q (0 + p.levels) (0 + p.levels + q.levels + p.hidden) z h.second g.0 (second (0 + p.levels) (none_before p.levels)) fourth g.1.1.1),
-      )))
+      let fifth : (m : ℕ) → m ≡ length p.origin → part (pair_size p q) m z ≡ iters_at p h.first = λ m e. behind_at ws 4 (pair_size p q) m (omega arith) (omega arith) (e ∙ sym n) in (
+        z,
+        (
+          lies,
+          (
+            (
+              tied_there p 0 (pair_size p q) z h.first (iters_at p h.first) first (fifth (length p.origin) refl) refl,
+              tied_there q p.levels (pair_size p q) z h.second (iters_at p h.first) (second p.levels refl) (fifth (length q.origin) (sym same)) h.same,
+            ),
+            (
+              held_there p 0 (0 + p.levels + q.levels) z h.first f.0 first third f.1.1.1,
+              held_there q (0 + p.levels) (0 + p.levels + q.levels + p.hidden) z h.second g.0 (second (0 + p.levels) (none_before p.levels)) fourth g.1.1.1,
+            ),
+          ),
+        ),
+      )
 
 pub no_common : (p q : Piece) → (length p.origin ≡ length q.origin → ⊥) → HaveCommon p q → ⊥
 no_common p q n h = n (sym (iters_long p h.first) ∙ ap length h.same ∙ iters_long q h.second)

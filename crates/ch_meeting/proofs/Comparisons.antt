@@ -19,7 +19,7 @@ use Rattle.ch_meeting.specs.Asked.{level_by}
 use Rattle.ch_meeting.specs.Meeting.{differing_level}
 use Rattle.ch_meeting.specs.Cases.{InOrder, IsWithin, OneOf, always, at_once, behind, from_values, orders_of}
 use Rattle.ch_space.proofs.Followings.{is_less}
-use Rattle.ch_space.proofs.PieceElements.{Comes, less_comes}
+use Rattle.ch_space.proofs.PieceElements.{less_comes}
 
 abbrev itself : List ℤ → List ℤ
 itself v = v
@@ -56,6 +56,7 @@ later_in x y xs ys o e i = record {
   where
     next : suc o.equal ≡ o.equal + 1
     next = omega arith
+
     same : (k : ℕ) → k < suc o.equal → at (x ∷ xs) k ≡ at (y ∷ ys) k
     same zero l = e
     same (suc k) l = i.same k (omega arith)
@@ -106,12 +107,15 @@ values_exact (p ∷ ps) (q ∷ qs) e (x ∷ xs) (y ∷ ys) l m = (λ h. to (valu
   where
     inner : Before (woven (map pos (p ∷ ps)) xs) (woven (map pos (q ∷ qs)) ys) ↔ OneOf (λ o. InOrder o xs ys) (orders_of (p ∷ ps) (q ∷ qs))
     inner = e xs ys (omega arith) (omega arith)
+
     first : x <ℤ y → InOrder at_once (x ∷ xs) (y ∷ ys)
     first h = record { same = λ k l. absurd (omega arith); less = λ t. h }
+
     to : (x <ℤ y) ⊎ ((x ≡ y) × Before (woven (map pos (p ∷ ps)) xs) (woven (map pos (q ∷ qs)) ys))
         → OneOf (λ o. InOrder o (x ∷ xs) (y ∷ ys)) (at_once ∷ map (behind 1) (orders_of (p ∷ ps) (q ∷ qs)))
     to (inl h) = (at_once, (inl refl, first h))
     to (inr h) = (let s = inner.0 h.1 in (behind 1 s.0, (inr (map_in (behind 1) (orders_of (p ∷ ps) (q ∷ qs)) s.0 s.1.0), later_in x y xs ys s.0 h.0 s.1.1)))
+
     from : (o : Order) → In o (at_once ∷ map (behind 1) (orders_of (p ∷ ps) (q ∷ qs))) → InOrder o (x ∷ xs) (y ∷ ys)
         → Before (x ∷ woven (map pos (p ∷ ps)) xs) (y ∷ woven (map pos (q ∷ qs)) ys)
     from o (inl k) i = less_head x y (woven (map pos (p ∷ ps)) xs) (woven (map pos (q ∷ qs)) ys) ((subst (λ t. InOrder t (x ∷ xs) (y ∷ ys)) (sym k) i).less refl)

@@ -1,7 +1,7 @@
 -- The least point of a draft, from that of its system; rows that are added to a draft.
-use Rattle.std.proofs.Common.{◌≡◌, refl, sym, ap, ◌∙◌, subst, ℕ, zero, suc, ◌+◌, ◌≤◌, ◌^◌, ℤ, pos, ◌+ℤ◌, neg_ℤ, ◌≤ℤ◌, Bool, true, ◌&&◌, int_le, Option, Some, None, Result, Ok, Err, IfOk, List, [], ◌∷◌, ◌++◌, length, map, arith, ◌↔◌}
+use Rattle.std.proofs.Common.{◌≡◌, refl, sym, ap, ◌∙◌, subst, ◌≤◌, ℤ, pos, neg_ℤ, ◌≤ℤ◌, true, ◌&&◌, int_le, Option, Some, None, Result, Ok, Err, IfOk, List, [], ◌∷◌, ◌++◌, length, map, arith, ◌↔◌}
 use Rattle.std.specs.Bool.{IsTrue}
-use Rattle.std.specs.List.{All, list_all}
+use Rattle.std.specs.List.{All}
 use Rattle.std.specs.declared.alloc.AllocError.{AllocError}
 use Rattle.std.proofs.lemmas.Bool.{and_parts, and_from}
 use Rattle.std.proofs.lemmas.Int.{ints}
@@ -18,7 +18,6 @@ use Rattle.ch_timed.specs.Members.{In}
 use Rattle.ch_meeting.specs.declared.draft.Draft.{Draft}
 use Rattle.ch_meeting.specs.Drafts.{Fits, IsDraft, IsLeastFit, Narrows}
 use Rattle.ch_meeting.proofs.Stretches.{dot_neg}
-use Rattle.ch_space.specs.Following.{UpTo}
 use Rattle.ch_space.proofs.EndsOf.{first_before, first_in, none_first, points_ascend}
 use Rattle.ch_space.proofs.Membership.{box_points_in, filter_in, in_box_points, in_filter}
 

@@ -8,7 +8,7 @@ use Rattle.ch_nest.specs.declared.nest.Access.{Access}
 use Rattle.ch_nest.specs.Run.{sub_value}
 use Rattle.ch_timed.specs.Members.{In}
 use Rattle.ch_meeting.specs.declared.orders.Order.{Order}
-use Rattle.ch_meeting.specs.Asked.{IsMeetingBy, MeetsBy, MeetsByAt}
+use Rattle.ch_meeting.specs.Asked.{MeetsByAt}
 use Rattle.ch_meeting.specs.Cases.{OneOf}
 use Rattle.ch_meeting.specs.Meeting.{MeetsAt, iters_at}
 use Rattle.ch_meeting.proofs.Comparisons.{AtLevels, Exact}
@@ -54,6 +54,7 @@ module _ (p q : Piece) (a b : Access) (level : ℕ) where
     where
       long : (u : Piece) (k : IsWhole u) (xs : List ℤ) → In xs (instances u) → length u.places ≡ length xs + 1
       long u k xs i = k.places ∙ ap (λ n. n + 1) (sym (levels_of u xs k i))
+
       to : OneOf (MeetsByAt level p q a b) orders → MeetsAt p q a b level
       to k =
           (let m = k.1.1.1 in
@@ -69,14 +70,20 @@ module _ (p q : Piece) (a b : Access) (level : ℕ) where
             };
             differs = levels m.first m.second (long p w m.first n.first) (long q v m.second n.second) k.0 k.1.0 n.order ∙ k.1.1.0;
           })
+
       from : MeetsAt p q a b level → OneOf (MeetsByAt level p q a b) orders
       from k =
           (let n = k.meeting in
-          let o = (exact k.first k.second (long p w k.first n.first) (long q v k.second n.second)).0 n.earlier in
-          (o.0, (o.1.0, (
-            sym (levels k.first k.second (long p w k.first n.first) (long q v k.second n.second) o.0 o.1.0 o.1.1) ∙ k.differs,
-            record { first = k.first; second = k.second; meeting = record { first = n.first; second = n.second; order = o.1.1; cell = n.cell } },
-          ))))
+          let o = (exact k.first k.second (long p w k.first n.first) (long q v k.second n.second)).0 n.earlier in (
+            o.0,
+            (
+              o.1.0,
+              (
+                sym (levels k.first k.second (long p w k.first n.first) (long q v k.second n.second) o.0 o.1.0 o.1.1) ∙ k.differs,
+                record { first = k.first; second = k.second; meeting = record { first = n.first; second = n.second; order = o.1.1; cell = n.cell } },
+              ),
+            ),
+          ))
 
   pub levels_ok : IsWhole p → IsWhole q → (ps qs : List ℕ) (ways os : List Order) → ps ≡ p.places → qs ≡ q.places → os ≡ ways → Exact ps qs ways → AtLevels ps qs ways → (res : Result Bool AllocError)
       → IfOk res (λ r. IsTrue r ↔ OneOf (MeetsByAt level p q a b) os) → IfOk res (λ r. IsTrue r ↔ MeetsAt p q a b level)

@@ -1,12 +1,11 @@
 -- Pairs whose accesses name one cell, and the points that stand for them.
-use Rattle.std.proofs.Common.{◌≡◌, ◌≢◌, refl, sym, ap, ap₂, ◌∙◌, subst, ℕ, zero, suc, ◌+◌, ◌<◌, ◌≤◌, ◌^◌, ℤ, pos, ◌-ℤ◌, ◌*ℤ◌, ◌≤ℤ◌, ◌<ℤ◌, Bool, true, Option, List, [], ◌∷◌, ◌++◌, length, map, take, drop, get_or, is_some, arith, ◌↔◌, length-append}
+use Rattle.std.proofs.Common.{◌≡◌, ◌≢◌, refl, sym, ap, ap₂, ◌∙◌, subst, ℕ, zero, suc, ◌+◌, ◌<◌, ◌≤◌, ℤ, pos, ◌-ℤ◌, ◌*ℤ◌, ◌≤ℤ◌, ◌<ℤ◌, Bool, Option, List, [], ◌∷◌, ◌++◌, length, map, take, drop, get_or, is_some, arith, ◌↔◌, length-append}
 use Rattle.std.specs.Bool.{IsTrue}
 use Rattle.std.specs.List.{All}
 use Rattle.std.proofs.lemmas.Int.{ints}
-use Rattle.std.proofs.lemmas.List.{same_lists, length-map, get_or-map, get_or-drop, get_or-take, get_or_default}
+use Rattle.std.proofs.lemmas.List.{same_lists, length-map, get_or-map, get_or-drop, get_or-take}
 use Rattle.std.proofs.lemmas.List.Elements.{All-append, All-head, All-tail}
-use Rattle.ch_affine.specs.Affine.{IsAtMost, value}
-use Rattle.ch_affine.specs.Form.{Form}
+use Rattle.ch_affine.specs.Affine.{value}
 use Rattle.ch_affine.specs.Rows.{IsBox, IsSystem, lies_in}
 use Rattle.ch_affine.specs.declared.system.Range.{Range}
 use Rattle.ch_nest.specs.declared.nest.Access.{Access}
@@ -17,18 +16,17 @@ use Rattle.ch_poly.proofs.Firsts.{InBox}
 use Rattle.ch_timed.specs.Conflict.{cell_of}
 use Rattle.ch_timed.specs.Members.{In}
 use Rattle.ch_timed.proofs.Orders.{map_in}
-use Rattle.ch_meeting.specs.declared.cells.Site.{Site}
 use Rattle.ch_meeting.specs.declared.draft.Draft.{Draft}
 use Rattle.ch_meeting.specs.declared.orders.Order.{Order}
 use Rattle.ch_meeting.specs.Asked.{AreMeeting, AreMeetingBy, Asks, IsMeetingBy, MeetsBy, first_site, meeting_boxes, pair_size, second_site}
 use Rattle.ch_meeting.specs.Cases.{InOrder, IsWithin}
 use Rattle.ch_meeting.specs.Drafts.{IsLeastFit, part}
 use Rattle.ch_meeting.specs.Meeting.{IsAccessOf, IsPlain, iters_at}
-use Rattle.ch_meeting.specs.Placed.{InModulus, IsSame, PairTiedAt, SameUpTo, cell_boxes, left, only, pair_boxes, turn_range, wides}
+use Rattle.ch_meeting.specs.Placed.{InModulus, IsSame, SameUpTo, cell_boxes, left, only, pair_boxes, turn_range, wides}
 use Rattle.ch_meeting.proofs.Commons.{held_there, iters_long, iters_small, none_before, pair_long, some_fits, tied_there}
 use Rattle.ch_meeting.proofs.Layouts.{cell_each, length_wides, near_inside, pair_each}
 use Rattle.ch_meeting.proofs.Least.{inside_lies, lies_inside}
-use Rattle.ch_meeting.proofs.Parts.{at_part, behind_at, both_inside, hidden_long, hidden_of, joined, levels_long, pair_instances, pair_joined, split_at, value_part}
+use Rattle.ch_meeting.proofs.Parts.{at_part, behind_at, both_inside, hidden_long, hidden_of, levels_long, pair_instances, pair_joined, split_at, value_part}
 use Rattle.ch_meeting.proofs.Remainders.{subscript_has, subscript_is}
 use Rattle.ch_space.specs.declared.piece.Piece.{Piece}
 use Rattle.ch_space.specs.Keeps.{IsWhole, IsWrapped}
@@ -57,12 +55,14 @@ some_turns : (subs : List Sub) (i : List ℤ) → All (IsWrapped i) subs → (ts
 some_turns [] i h = ([], record { long = refl; inside = tt; each = λ k d l. absurd (omega arith) })
 some_turns (s ∷ subs) i h =
     let q = subscript_has s i (All-head (IsWrapped i) s subs h) in
-    let r = some_turns subs i (All-tail (IsWrapped i) s subs h) in
-    (q.0 ∷ r.0, record {
-      long = ap suc r.1.long;
-      inside = (q.1.1.0, q.1.1.1, r.1.inside);
-      each = turns_each s subs i q.0 r.0 q.1.0 r.1.each;
-    })
+    let r = some_turns subs i (All-tail (IsWrapped i) s subs h) in (
+      q.0 ∷ r.0,
+      record {
+        long = ap suc r.1.long;
+        inside = (q.1.1.0, q.1.1.1, r.1.inside);
+        each = turns_each s subs i q.0 r.0 q.1.0 r.1.each;
+      },
+    )
   where
     turns_each : (s : Sub) (subs : List Sub) (i : List ℤ) (q : ℤ) (ts : List ℤ) → InModulus s i q → ((k : ℕ) (d : Sub) → k < length subs → InModulus (get_or subs k d) i (at ts k))
         → (k : ℕ) (d : Sub) → k < suc (length subs) → InModulus (get_or (s ∷ subs) k d) i (at (q ∷ ts) k)
@@ -78,16 +78,16 @@ module _ (p q : Piece) (a b : Access) (w : IsPlain p) (v : IsPlain q) (f : IsAcc
       ap₂ (λ n ns. record { array = n; subs = ns }) array
       (same_lists (subscripts a (iters_at p xs)) (subscripts b (iters_at q ys)) (length-map a.subs (sub_value (iters_at p xs)) ∙ same ∙ sym (length-map b.subs (sub_value (iters_at q ys))))
       (λ k d l. (let m : k < length a.subs = simp length-map at l in
-          let n : k < length b.subs = omega arith in
-          get_or-map (sub_value (iters_at p xs)) a.subs k nothing d m
-          ∙ same_subscripts (get_or a.subs k nothing) (get_or b.subs k nothing) (iters_at p xs) (iters_at q ys) (at z (iters + length p.origin + length q.origin + k))
-          (at z (iters + length p.origin + length q.origin + length a.subs + k))
-          (same_values (get_or a.subs k nothing) (get_or b.subs k nothing) (drop iters z) (drop (iters + length p.origin) z) (iters_at p xs) (iters_at q ys)
-          (at z (iters + length p.origin + length q.origin + k)) (at z (iters + length p.origin + length q.origin + length a.subs + k))
-          (sym (value_part (get_or a.subs k nothing).form iters (length p.origin) z (let c = f.forms k nothing m in omega arith)) ∙ ap (value (get_or a.subs k nothing).form) e)
-          (sym (value_part (get_or b.subs k nothing).form (iters + length p.origin) (length q.origin) z (let c = g.forms k nothing n in omega arith)) ∙ ap (value (get_or b.subs k nothing).form) i)
-          (h k nothing nothing m))
-          ∙ sym (get_or-map (sub_value (iters_at q ys)) b.subs k nothing d n))))
+      let n : k < length b.subs = omega arith in
+      get_or-map (sub_value (iters_at p xs)) a.subs k nothing d m
+      ∙ same_subscripts (get_or a.subs k nothing) (get_or b.subs k nothing) (iters_at p xs) (iters_at q ys) (at z (iters + length p.origin + length q.origin + k))
+      (at z (iters + length p.origin + length q.origin + length a.subs + k))
+      (same_values (get_or a.subs k nothing) (get_or b.subs k nothing) (drop iters z) (drop (iters + length p.origin) z) (iters_at p xs) (iters_at q ys)
+      (at z (iters + length p.origin + length q.origin + k)) (at z (iters + length p.origin + length q.origin + length a.subs + k))
+      (sym (value_part (get_or a.subs k nothing).form iters (length p.origin) z (let c = f.forms k nothing m in omega arith)) ∙ ap (value (get_or a.subs k nothing).form) e)
+      (sym (value_part (get_or b.subs k nothing).form (iters + length p.origin) (length q.origin) z (let c = g.forms k nothing n in omega arith)) ∙ ap (value (get_or b.subs k nothing).form) i)
+      (h k nothing nothing m))
+      ∙ sym (get_or-map (sub_value (iters_at q ys)) b.subs k nothing d n))))
     where
       nothing : Sub
       nothing = record { form = record { coefs = []; constant = pos 0 }; modulus = 0 }
@@ -276,18 +276,20 @@ module _ (o : Order) (p q : Piece) (a b : Access) (w : IsPlain p) (v : IsPlain q
           let l5 : length (iters_at p xs) ≡ length p.origin = iters_long p xs in
           let l6 : length (iters_at q ys) ≡ length q.origin = iters_long q ys in
           let l7 = t.1.long in
-          let l8 : length u.0 ≡ length a.subs = u.1.long ∙ sym same in
-          (z, (
-            inside_lies (meeting_boxes p q a b) z (pair_inside p q xs ys (iters_at p xs ++ (iters_at q ys ++ (t.0 ++ (u.0 ++ pos 1 ∷ [])))) (cell_boxes (length p.origin) (length q.origin) a b) e h
-            (rest_inside xs ys m t.0 u.0 t.1 u.1)),
-            meeting_there xs ys m (pair_size p q) z t.0 u.0 e h
-            (behind_at ws 0 0 p.levels refl (omega arith) (sym l1)) (behind_at ws 1 p.levels q.levels (omega arith) (omega arith) (sym l2))
-            (behind_at ws 2 (p.levels + q.levels) p.hidden (omega arith) (omega arith) (sym l3)) (behind_at ws 3 (p.levels + q.levels + p.hidden) q.hidden (omega arith) (omega arith) (sym l4))
-            (behind_at ws 4 (pair_size p q) (length p.origin) (omega arith) (omega arith) (sym l5)) (behind_at ws 5 (pair_size p q + length p.origin) (length q.origin) (omega arith) (omega arith) (sym l6))
-            (behind_at ws 6 (pair_size p q + length p.origin + length q.origin) (length a.subs) (omega arith) (omega arith) (sym l7))
-            (behind_at ws 7 (pair_size p q + length p.origin + length q.origin + length a.subs) (length a.subs) (omega arith) (omega arith) (sym l8))
-            t.1 u.1,
-          )))
+          let l8 : length u.0 ≡ length a.subs = u.1.long ∙ sym same in (
+            z,
+            (
+              inside_lies (meeting_boxes p q a b) z (pair_inside p q xs ys (iters_at p xs ++ (iters_at q ys ++ (t.0 ++ (u.0 ++ pos 1 ∷ [])))) (cell_boxes (length p.origin) (length q.origin) a b) e h
+                  (rest_inside xs ys m t.0 u.0 t.1 u.1)),
+              meeting_there xs ys m (pair_size p q) z t.0 u.0 e h
+                  (behind_at ws 0 0 p.levels refl (omega arith) (sym l1)) (behind_at ws 1 p.levels q.levels (omega arith) (omega arith) (sym l2))
+                  (behind_at ws 2 (p.levels + q.levels) p.hidden (omega arith) (omega arith) (sym l3)) (behind_at ws 3 (p.levels + q.levels + p.hidden) q.hidden (omega arith) (omega arith) (sym l4))
+                  (behind_at ws 4 (pair_size p q) (length p.origin) (omega arith) (omega arith) (sym l5)) (behind_at ws 5 (pair_size p q + length p.origin) (length q.origin) (omega arith) (omega arith) (sym l6))
+                  (behind_at ws 6 (pair_size p q + length p.origin + length q.origin) (length a.subs) (omega arith) (omega arith) (sym l7))
+                  (behind_at ws 7 (pair_size p q + length p.origin + length q.origin + length a.subs) (length a.subs) (omega arith) (omega arith) (sym l8))
+                  t.1 u.1,
+            ),
+          ))
 
   pub meeting_answer : (d : Draft) (point : Option (List ℤ)) (r : Bool) → Asks d (meeting_boxes p q a b) (AreMeetingBy o p q a b) → IsLeastFit d point → r ≡ is_some point → IsTrue r ↔ MeetsBy o p q a b
   meeting_answer d point r k l e = some_fits d (meeting_boxes p q a b) (AreMeetingBy o p q a b) (MeetsBy o p q a b) point r k l e meeting_to meeting_from

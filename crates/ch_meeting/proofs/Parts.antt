@@ -1,23 +1,21 @@
 -- Parts of points, and the instances of pieces that stand in them.
-use Rattle.std.proofs.Common.{◌≡◌, refl, sym, ap, ap₂, ◌∙◌, subst, ℕ, zero, suc, ◌+◌, ◌-◌, ◌<◌, ◌≤◌, ℤ, pos, ◌+ℤ◌, ◌*ℤ◌, true, List, [], ◌∷◌, ◌++◌, length, map, take, drop, get_or, arith, append_assoc, length-append, length-take, length-drop, length-take-le}
+use Rattle.std.proofs.Common.{◌≡◌, refl, sym, ap, ap₂, ◌∙◌, subst, ℕ, zero, suc, ◌+◌, ◌<◌, ◌≤◌, ℤ, pos, ◌+ℤ◌, ◌*ℤ◌, true, List, [], ◌∷◌, ◌++◌, length, take, drop, get_or, arith, append_assoc, length-drop, length-take-le}
 use Rattle.std.specs.Bool.{IsTrue}
-use Rattle.std.specs.List.{All}
-use Rattle.std.proofs.lemmas.Int.{ints}
 use Rattle.std.proofs.lemmas.List.{take-append-drop, take_at, drop_at, drop-drop, get_or-drop, get_or-take}
 use Rattle.ch_affine.specs.Affine.{dot, value}
 use Rattle.ch_affine.specs.Form.{Form}
-use Rattle.ch_affine.specs.Rows.{IsSystem, all_hold}
+use Rattle.ch_affine.specs.Rows.{all_hold}
 use Rattle.ch_affine.specs.declared.system.Range.{Range}
 use Rattle.ch_poly.specs.Boxes.{at}
-use Rattle.ch_poly.specs.Points.{begins, box_points, points}
+use Rattle.ch_poly.specs.Points.{begins, box_points}
 use Rattle.ch_poly.proofs.Firsts.{InBox}
 use Rattle.ch_timed.specs.Members.{In}
 use Rattle.ch_meeting.specs.Drafts.{part}
-use Rattle.ch_meeting.specs.Placed.{HoldsAt, PairAt, pair_boxes}
+use Rattle.ch_meeting.specs.Placed.{PairAt, pair_boxes}
 use Rattle.ch_space.specs.declared.piece.Piece.{Piece}
 use Rattle.ch_space.specs.Keeps.{IsWhole}
 use Rattle.ch_space.specs.Pieces.{instances}
-use Rattle.ch_space.proofs.Membership.{IsInstance, begins_take, box_points_in, filter_in, in_box_points, in_filter, in_instances, inside_take, instances_in, length_inside, take_begins}
+use Rattle.ch_space.proofs.Membership.{begins_take, box_points_in, filter_in, in_box_points, in_filter, in_instances, instances_in, length_inside, take_begins}
 
 -- ranges end to end
 

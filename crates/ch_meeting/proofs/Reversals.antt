@@ -1,5 +1,5 @@
 -- Pairs that two other pieces have the other way round, the points that stand for them, and the least of them.
-use Rattle.std.proofs.Common.{◌≡◌, refl, sym, ap, ap₂, ◌∙◌, subst, ℕ, zero, suc, ◌+◌, ◌<◌, ◌≤◌, ◌^◌, ℤ, pos, Bool, true, false, Option, Some, None, List, [], ◌∷◌, ◌++◌, length, map, take, drop, get_or, ◌⊎◌, inl, inr, arith, ◌↔◌, append_assoc, length-append, Result, Ok, Err, IfOk}
+use Rattle.std.proofs.Common.{◌≡◌, refl, sym, ap, ap₂, ◌∙◌, subst, ℕ, ◌+◌, ◌<◌, ◌≤◌, ℤ, pos, Bool, true, false, Option, Some, None, List, [], ◌∷◌, ◌++◌, length, take, drop, get_or, ◌⊎◌, inl, inr, arith, append_assoc, length-append, Result, Ok, Err, IfOk}
 use Rattle.std.specs.declared.alloc.AllocError.{AllocError}
 use Rattle.std.specs.Bool.{IsTrue}
 use Rattle.std.specs.List.{All}
@@ -17,13 +17,13 @@ use Rattle.ch_nest.specs.declared.nest.Access.{Access}
 use Rattle.ch_poly.proofs.Firsts.{InBox}
 use Rattle.ch_poly.specs.Boxes.{at}
 use Rattle.ch_timed.specs.Members.{In}
-use Rattle.ch_timed.specs.Vectors.{comes_before, woven}
+use Rattle.ch_timed.specs.Vectors.{comes_before}
 use Rattle.ch_meeting.specs.declared.draft.Draft.{Draft}
 use Rattle.ch_meeting.specs.declared.orders.Order.{Order}
-use Rattle.ch_meeting.specs.Asked.{AreMeeting, AreReversal, AreTurned, Asks, IsMeetingBy, IsReversalAmong, IsReversalBy, IsTurnedAmong, IsTurnedBy, cells_end, lesser, pair_size, reversal_boxes, reversal_iters, second_if}
+use Rattle.ch_meeting.specs.Asked.{AreMeeting, AreReversal, AreTurned, Asks, IsMeetingBy, IsReversalAmong, IsReversalBy, IsTurnedBy, cells_end, lesser, pair_size, reversal_boxes, reversal_iters, second_if}
 use Rattle.ch_meeting.specs.Cases.{InOrder, IsWithin, OneOf}
 use Rattle.ch_meeting.specs.Drafts.{IsLeastFit, Narrows, part}
-use Rattle.ch_meeting.specs.Meeting.{ComesBefore, IsAccessOf, IsLeastPair, IsMeeting, IsPlain, IsReversal, IsTurned, iters_at}
+use Rattle.ch_meeting.specs.Meeting.{IsAccessOf, IsLeastPair, IsPlain, IsReversal, iters_at}
 use Rattle.ch_meeting.specs.Placed.{cell_boxes, pair_boxes}
 use Rattle.ch_meeting.proofs.Commons.{held_there, iters_long, none_before, pair_long, tied_there}
 use Rattle.ch_meeting.proofs.Comparisons.{Exact}
@@ -34,7 +34,7 @@ use Rattle.ch_meeting.proofs.Parts.{behind_at, pair_instances, split_at}
 use Rattle.ch_meeting.proofs.Steps.{long_point}
 use Rattle.ch_space.specs.declared.piece.Piece.{Piece}
 use Rattle.ch_space.specs.Following.{UpTo}
-use Rattle.ch_space.specs.Keeps.{IsWhole, places_of}
+use Rattle.ch_space.specs.Keeps.{IsWhole}
 use Rattle.ch_space.specs.Pieces.{instances}
 use Rattle.ch_space.proofs.EndsOf.{take_up_to}
 use Rattle.ch_space.proofs.Followings.{is_less}
@@ -104,30 +104,32 @@ module _ (o t : Order) (p q r s : Piece) (a b : Access) (w : IsPlain p) (v : IsP
       (behind_at ws 2 (p.levels + q.levels) p.hidden (omega arith) (omega arith) (sym l3)) (behind_at ws 3 (p.levels + q.levels + p.hidden) q.hidden (omega arith) (omega arith) (sym l4))
       (b8 (length p.origin) refl) (b9 (length q.origin) refl)
       (behind_at ws 10 (Iters + length p.origin + length q.origin) (length a.subs) (omega arith) (omega arith) (sym l7))
-      (behind_at ws 11 (Iters + length p.origin + length q.origin + length a.subs) (length a.subs) (omega arith) (omega arith) (sym l8)) ta.1 tb.1 in
-      (z, (
-        inside_lies (reversal_boxes p q r s a b) z (pair_inside p q xs ys new (pair_boxes s r ++ Cells) e h (pair_inside s r k.second k.first tail Cells i j
-        (rest_inside o p q a b w v f g array same within xs ys m ta.0 tb.0 ta.1 tb.1))),
+      (behind_at ws 11 (Iters + length p.origin + length q.origin + length a.subs) (length a.subs) (omega arith) (omega arith) (sym l8)) ta.1 tb.1 in (
+        z,
         (
+          inside_lies (reversal_boxes p q r s a b) z (pair_inside p q xs ys new (pair_boxes s r ++ Cells) e h (pair_inside s r k.second k.first tail Cells i j
+              (rest_inside o p q a b w v f g array same within xs ys m ta.0 tb.0 ta.1 tb.1))),
           (
-            there.0,
-            there.1,
             (
-              in_parts t s.levels r.levels Base (Base + s.levels) z turned_within
-                  (subst (λ c. InOrder t c (part (Base + s.levels) r.levels z)) (sym b4) (subst (InOrder t k.second) (sym b5) k.order)),
-              tied_there s Base (Iters + length p.origin) z k.second (iters_at q ys) b4 (b9 (length s.origin) same_second) (sym k.same_second),
-              tied_there r (Base + s.levels) Iters z k.first (iters_at p xs) b5 (b8 (length r.origin) same_first) (sym k.same_first),
+              there.0,
+              there.1,
               (
-                held_there s Base (Base + s.levels + r.levels) z k.second i.hidden b4 (behind_at ws 6 (Base + s.levels + r.levels) s.hidden (omega arith) (omega arith) (sym n3)) i.rows,
-                held_there r (Base + s.levels) (Base + s.levels + r.levels + s.hidden) z k.first j.hidden b5
-                    (behind_at ws 7 (Base + s.levels + r.levels + s.hidden) r.hidden (omega arith) (omega arith) (sym n4)) j.rows,
+                in_parts t s.levels r.levels Base (Base + s.levels) z turned_within
+                    (subst (λ c. InOrder t c (part (Base + s.levels) r.levels z)) (sym b4) (subst (InOrder t k.second) (sym b5) k.order)),
+                tied_there s Base (Iters + length p.origin) z k.second (iters_at q ys) b4 (b9 (length s.origin) same_second) (sym k.same_second),
+                tied_there r (Base + s.levels) Iters z k.first (iters_at p xs) b5 (b8 (length r.origin) same_first) (sym k.same_first),
+                (
+                  held_there s Base (Base + s.levels + r.levels) z k.second i.hidden b4 (behind_at ws 6 (Base + s.levels + r.levels) s.hidden (omega arith) (omega arith) (sym n3)) i.rows,
+                  held_there r (Base + s.levels) (Base + s.levels + r.levels + s.hidden) z k.first j.hidden b5
+                      (behind_at ws 7 (Base + s.levels + r.levels + s.hidden) r.hidden (omega arith) (omega arith) (sym n4)) j.rows,
+                ),
               ),
             ),
+            ap (take (p.levels + q.levels)) (sym (append_assoc xs ys (e.hidden ++ (h.hidden ++ new)))) ∙ take_at (xs ++ ys) (e.hidden ++ (h.hidden ++ new)) (p.levels + q.levels)
+                (length-append xs ys ∙ ap₂ (λ c d. c + d) l1 l2),
           ),
-          ap (take (p.levels + q.levels)) (sym (append_assoc xs ys (e.hidden ++ (h.hidden ++ new)))) ∙ take_at (xs ++ ys) (e.hidden ++ (h.hidden ++ new)) (p.levels + q.levels)
-              (length-append xs ys ∙ ap₂ (λ c d. c + d) l1 l2),
         ),
-      ))
+      )
 
   reversal_from : (xs ys : List ℤ) → IsReversalBy o t p q r s a b xs ys → Stands xs ys
   reversal_from xs ys k =
@@ -288,6 +290,7 @@ module _ (p q r s : Piece) (a b : Access) where
     where
       long : (u : Piece) (k : IsWhole u) (xs : List ℤ) → In xs (instances u) → length u.places ≡ length xs + 1
       long u k xs i = k.places ∙ ap (λ n. n + 1) (sym (levels_of u xs k i))
+
       to : (xs ys : List ℤ) → IsReversalAmong orders turns p q r s a b xs ys → IsReversal p q r s a b xs ys
       to xs ys k =
           (let m = k.1.1.1.1.0 in
@@ -303,24 +306,36 @@ module _ (p q r s : Piece) (a b : Access) where
               turned = (turned n.second n.first (long s y n.second n.is_second) (long r x n.first n.is_first)).1 (k.1.1.0, (k.1.1.1.0, n.order));
             },
           ))
+
       from : (xs ys : List ℤ) → IsReversal p q r s a b xs ys → IsReversalAmong orders turns p q r s a b xs ys
       from xs ys k =
           (let m = k.0 in
           let n = k.1 in
           let o = (exact xs ys (long p w xs m.first) (long q v ys m.second)).0 m.earlier in
-          let t = (turned n.second n.first (long s y n.second n.is_second) (long r x n.first n.is_first)).0 n.turned in
-          (o.0, (o.1.0, (t.0, (t.1.0, (
-            record { first = m.first; second = m.second; order = o.1.1; cell = m.cell },
-            record {
-              first = n.first;
-              second = n.second;
-              is_first = n.is_first;
-              is_second = n.is_second;
-              same_first = n.same_first;
-              same_second = n.same_second;
-              order = t.1.1;
-            },
-          ))))))
+          let t = (turned n.second n.first (long s y n.second n.is_second) (long r x n.first n.is_first)).0 n.turned in (
+            o.0,
+            (
+              o.1.0,
+              (
+                t.0,
+                (
+                  t.1.0,
+                  (
+                    record { first = m.first; second = m.second; order = o.1.1; cell = m.cell },
+                    record {
+                      first = n.first;
+                      second = n.second;
+                      is_first = n.is_first;
+                      is_second = n.is_second;
+                      same_first = n.same_first;
+                      same_second = n.same_second;
+                      order = t.1.1;
+                    },
+                  ),
+                ),
+              ),
+            ),
+          ))
 
   pub no_array : (a.array ≡ b.array → ⊥) → IsLeastPair p.levels (IsReversal p q r s a b) None
   no_array h = λ xs ys k. h (ap (λ c. c.array) k.0.cell)

@@ -1,7 +1,6 @@
 -- What a draft asks for once a row more is in it.
 use Rattle.std.proofs.Common.{◌≡◌, ◌≢◌, refl, sym, ap, ap₂, ◌∙◌, subst, ℕ, zero, suc, ◌+◌, ◌-◌, ◌<◌, ◌≤◌, ℤ, pos, ◌+ℤ◌, ◌-ℤ◌, ◌*ℤ◌, ◌≤ℤ◌, ◌<ℤ◌, Bool, true, false, ◌&&◌, int_le, List, [], ◌∷◌, ◌++◌, length, map, take, drop, get_or, ◌⊎◌, inl, inr, arith, ◌↔◌}
 use Rattle.std.specs.Bool.{IsTrue}
-use Rattle.std.specs.List.{All, list_all}
 use Rattle.std.proofs.lemmas.Bool.{and_parts, and_from, cases_lt}
 use Rattle.std.proofs.lemmas.Int.{ints}
 use Rattle.std.proofs.lemmas.List.{take_more, map_more, take_all, take-append-drop, get_or-drop, length-drop, length-take-le, same_from_push}
@@ -20,8 +19,8 @@ use Rattle.ch_meeting.specs.Asked.{first_site, second_site}
 use Rattle.ch_meeting.specs.Cases.{InOrder}
 use Rattle.ch_meeting.specs.Drafts.{IsDraft, Narrows, part}
 use Rattle.ch_meeting.specs.Placed.{HoldsAt, InModulus, IsSame, SameUpTo, TiedAt, left}
-use Rattle.ch_meeting.proofs.Least.{le_true, lies_inside, narrowed_as, narrowed_draft, narrowed_twice, not_narrowed, true_le}
-use Rattle.ch_meeting.proofs.Parts.{at_part, dot_take, part_long, value_part}
+use Rattle.ch_meeting.proofs.Least.{le_true, lies_inside, narrowed_as, narrowed_twice, not_narrowed, true_le}
+use Rattle.ch_meeting.proofs.Parts.{dot_take, part_long, value_part}
 use Rattle.ch_space.specs.declared.piece.Piece.{Piece}
 use Rattle.ch_space.specs.Keeps.{IsWhole}
 use Rattle.ch_space.proofs.Membership.{length_inside}
@@ -197,7 +196,7 @@ module _ (a b : Access) (here there : Site) (k : ℕ) (s t : Sub) (is : (d : Sub
         λ h. (
           λ j d e l. h j d e (omega arith),
           subst (λ x. IsSame x t (drop here.iters z) (drop there.iters z) (at z (here.turns + k)) (at z (there.turns + k))) (sym (is s))
-          (subst (λ x. IsSame (get_or a.subs k s) x (drop here.iters z) (drop there.iters z) (at z (here.turns + k)) (at z (there.turns + k))) (sym (are t)) (h k s t (omega arith))),
+              (subst (λ x. IsSame (get_or a.subs k s) x (drop here.iters z) (drop there.iters z) (at z (here.turns + k)) (at z (there.turns + k))) (sym (are t)) (h k s t (omega arith))),
         ),
       ))
 
@@ -218,11 +217,14 @@ agree_more old now next first second k row v a b =
   where
     from : (z : List ℤ) → at (drop first z) k ≡ at (drop second z) k → value row z ≡ pos 0
     from z e = (let x = get_or-drop first z k (pos 0) in let y = get_or-drop second z k (pos 0) in omega (arith, ints, v z))
+
     here : (z : List ℤ) → value row z ≡ pos 0 → at (drop first z) k ≡ at (drop second z) k
     here z e = (let x = get_or-drop first z k (pos 0) in let y = get_or-drop second z k (pos 0) in omega (arith, ints, v z))
+
     at_last : (z : List ℤ) → AgreeUpTo k first second z → value row z ≡ pos 0 → (j : ℕ) → j < k + 1 → (j < k) ⊎ (k ≤ j) → at (drop first z) j ≡ at (drop second z) j
     at_last z h e j l (inl m) = h j m
     at_last z h e j l (inr m) = (let q : k ≡ j = omega arith in subst (λ i. at (drop first z) i ≡ at (drop second z) i) q (here z e))
+
     to : (z : List ℤ) → AgreeUpTo k first second z → value row z ≡ pos 0 → AgreeUpTo (k + 1) first second z
     to z h e j l = at_last z h e j l (cases_lt j k)
 
@@ -251,6 +253,7 @@ in_order_next old mid new o first second k row l m e v a b =
   where
     to : (z : List ℤ) → pos 0 ≤ℤ value row z → at (drop first z) o.equal <ℤ at (drop second z) o.equal
     to z h = (let x = get_or-drop first z o.equal (pos 0) in let y = get_or-drop second z o.equal (pos 0) in omega (arith, ints, v z))
+
     from : (z : List ℤ) → at (drop first z) o.equal <ℤ at (drop second z) o.equal → pos 0 ≤ℤ value row z
     from z h = (let x = get_or-drop first z o.equal (pos 0) in let y = get_or-drop second z o.equal (pos 0) in omega (arith, ints, v z))
 

@@ -1,16 +1,16 @@
 -- Coefficients of stretches of variables, and the value of a row that is made of them.
-use Rattle.std.proofs.Common.{◌≡◌, refl, sym, ap, ◌∙◌, subst, ℕ, zero, suc, ◌+◌, ◌-◌, ◌<◌, ◌≤◌, ◌^◌, ℤ, pos, negsuc, ◌+ℤ◌, ◌-ℤ◌, ◌*ℤ◌, neg_ℤ, ◌≤ℤ◌, List, [], ◌∷◌, ◌++◌, length, map, take, drop, arith, append_assoc, append-nil, length-append}
+use Rattle.std.proofs.Common.{◌≡◌, refl, sym, ap, ◌∙◌, subst, ℕ, zero, suc, ◌+◌, ◌-◌, ◌≤◌, ◌^◌, ℤ, pos, ◌+ℤ◌, ◌-ℤ◌, ◌*ℤ◌, neg_ℤ, List, [], ◌∷◌, ◌++◌, length, map, drop, arith, append_assoc, append-nil, length-append}
 use Rattle.std.specs.List.{All}
 use Rattle.std.proofs.lemmas.Int.{ints}
 use Rattle.std.proofs.lemmas.List.{length-map}
-use Rattle.std.proofs.lemmas.List.Elements.{All-nil, All-cons, All-append, All-map, All-head, All-tail}
+use Rattle.std.proofs.lemmas.List.Elements.{All-nil, All-cons, All-append, All-map}
 use Rattle.std.proofs.Math.IntN.{zero-*ℤ}
 use Rattle.ch_affine.specs.Affine.{IsAtMost, dot, form, value}
 use Rattle.ch_affine.specs.Form.{Form}
 use Rattle.ch_affine.proofs.Integers.{plus_times}
 use Rattle.ch_poly.specs.Boxes.{at}
 use Rattle.ch_space.specs.Built.{padded, zeros}
-use Rattle.ch_space.proofs.Rowed.{dot_zeros, one_times}
+use Rattle.ch_space.proofs.Rowed.{dot_zeros}
 
 dot_none : (cs : List ℤ) → dot cs [] ≡ pos 0
 dot_none [] = refl

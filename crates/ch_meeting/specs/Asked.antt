@@ -112,7 +112,7 @@ AreReversal o t p q r s a b z =
     InOrder o (drop 0 z) (drop p.levels z)
     × AreMeeting p q a b (reversal_iters p q r s) z
     × AreTurned t r s (pair_size p q) (reversal_iters p q r s)
-        (reversal_iters p q r s + length p.origin) z
+    (reversal_iters p q r s + length p.origin) z
 
 -- a pair that meets in the one order and is turned in the other
 abbrev pub IsReversalBy : Order → Order → Piece → Piece → Piece → Piece → Access → Access → List ℤ → List ℤ → Type 0

@@ -1,5 +1,5 @@
 -- The ways in which the values of one vector can be, against those of a second that it comes before.
-use Rattle.std.specs.Prelude.{◌≡◌, ◌≤◌, ◌<◌, ◌+◌, ◌<ℤ◌, ℕ, suc, ℤ, Bool, true, false, nat_lt, if◌then◌else◌, IsTrue, List, [], ◌∷◌, map}
+use Rattle.std.specs.Prelude.{◌≡◌, ◌≤◌, ◌<◌, ◌+◌, ◌<ℤ◌, ℕ, ℤ, true, false, nat_lt, if◌then◌else◌, IsTrue, List, [], ◌∷◌, map}
 use Rattle.ch_meeting.specs.declared.orders.Order.{Order}
 use Rattle.ch_poly.specs.Boxes.{at}
 use Rattle.ch_timed.specs.Members.{In}

@@ -1,7 +1,7 @@
 -- What the parts of a point say of pieces and accesses: the parts stand from given variables on.
 use Rattle.std.specs.Prelude.{◌≡◌, ◌≢◌, ◌<◌, ◌+◌, ◌^◌, neg_ℤ, ◌≤ℤ◌, ◌<ℤ◌, ◌-ℤ◌, ◌*ℤ◌, ℕ, zero, suc, ℤ, pos, List, [], ◌∷◌, ◌++◌, length, map, take, drop, slice_index_or, IsTrue}
 use Rattle.ch_affine.specs.Affine.{value}
-use Rattle.ch_affine.specs.Rows.{all_hold, lies_in}
+use Rattle.ch_affine.specs.Rows.{all_hold}
 use Rattle.ch_affine.specs.declared.system.Range.{Range}
 use Rattle.ch_nest.specs.declared.nest.Access.{Access}
 use Rattle.ch_nest.specs.declared.nest.Sub.{Sub}

@@ -173,8 +173,14 @@ pub(crate) fn same_cell(
     let subs = access.subs.as_slice();
     let others = other.subs.as_slice();
     for k in 0..subs.len() {
-        let now = Site { turns: here.turns + k, ..here };
-        let then = Site { turns: there.turns + k, ..there };
+        let now = Site {
+            turns: here.turns + k,
+            ..here
+        };
+        let then = Site {
+            turns: there.turns + k,
+            ..there
+        };
         same_subscript(alloc, draft, &subs[k], &others[k], now, then, one)?;
     }
     Ok(())

@@ -65,8 +65,16 @@ pub(crate) fn push_pair(
     requires second { IsWhole second.now }
     ensures { OnOk result (boxes.new ≡ boxes.old ++ pair_boxes first.now second.now) }
 {
-    let (levels, hidden) = first.system.boxes.as_slice().split_at(first.levels as usize);
-    let (others, behind) = second.system.boxes.as_slice().split_at(second.levels as usize);
+    let (levels, hidden) = first
+        .system
+        .boxes
+        .as_slice()
+        .split_at(first.levels as usize);
+    let (others, behind) = second
+        .system
+        .boxes
+        .as_slice()
+        .split_at(second.levels as usize);
     push_ranges(boxes, levels)?;
     push_ranges(boxes, others)?;
     push_ranges(boxes, hidden)?;

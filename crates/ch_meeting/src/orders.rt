@@ -45,7 +45,8 @@ fn push_orders(
     ensures { OnOk result (orders.new
         ≡ orders.old ++ map (behind equal) (orders_of first.now second.now)) }
 {
-    let (Some((place, first)), Some((other, second))) = (first.split_first(), second.split_first()) else {
+    let (Some((place, first)), Some((other, second))) = (first.split_first(), second.split_first())
+    else {
         return Ok(());
     };
     if *place < *other {
@@ -62,7 +63,11 @@ fn push_orders(
 }
 
 /// The orders of the values with which a vector of the first places comes before one of the second.
-pub(crate) fn orders(alloc: Global, first: &[u32], second: &[u32]) -> Result<List<Order>, AllocError>
+pub(crate) fn orders(
+    alloc: Global,
+    first: &[u32],
+    second: &[u32],
+) -> Result<List<Order>, AllocError>
     requires { length first.now < 2 ^ 32 }
     ensures exact { IfOk result (λ orders. (xs ys : List ℤ) → length first.now ≡ length xs + 1
         → length second.now ≡ length ys + 1

@@ -172,7 +172,13 @@ fn meeting_ranges(
 {
     let mut boxes = List::new(alloc);
     push_pair(&mut boxes, first, second)?;
-    push_cells(&mut boxes, first.origin.len(), second.origin.len(), access, other)?;
+    push_cells(
+        &mut boxes,
+        first.origin.len(),
+        second.origin.len(),
+        access,
+        other,
+    )?;
     Ok(boxes)
 }
 
@@ -208,7 +214,15 @@ fn ask_meeting(
         turns: turns + count,
     };
     tie_pair(alloc, draft, first, second, 0, iters)?;
-    same_cell(alloc, draft, access, other, here, there, turns + count + other.subs.len())?;
+    same_cell(
+        alloc,
+        draft,
+        access,
+        other,
+        here,
+        there,
+        turns + count + other.subs.len(),
+    )?;
     place_pair(alloc, draft, first, second, 0)
 }
 
@@ -282,7 +296,13 @@ fn reversal_ranges(
     let mut boxes = List::new(alloc);
     push_pair(&mut boxes, first, second)?;
     push_pair(&mut boxes, new_second, new_first)?;
-    push_cells(&mut boxes, first.origin.len(), second.origin.len(), access, other)?;
+    push_cells(
+        &mut boxes,
+        first.origin.len(),
+        second.origin.len(),
+        access,
+        other,
+    )?;
     Ok(boxes)
 }
 
@@ -356,7 +376,16 @@ fn ask_reversal(
     let iters = start + variables_of(new_second, new_first);
     put_in_order(alloc, draft, order, 0, first.levels as usize)?;
     ask_meeting(alloc, draft, first, second, access, other, iters)?;
-    ask_turned(alloc, draft, new_first, new_second, turn, start, iters, iters + first.origin.len())
+    ask_turned(
+        alloc,
+        draft,
+        new_first,
+        new_second,
+        turn,
+        start,
+        iters,
+        iters + first.origin.len(),
+    )
 }
 
 fn reversal_draft(
@@ -391,7 +420,9 @@ fn reversal_draft(
     known(&new_second.system);
     let boxes = reversal_ranges(alloc, first, second, new_first, new_second, access, other)?;
     let mut draft = Draft::new(alloc, boxes);
-    ask_reversal(alloc, &mut draft, first, second, new_first, new_second, access, other, order, turn)?;
+    ask_reversal(
+        alloc, &mut draft, first, second, new_first, new_second, access, other, order, turn,
+    )?;
     Ok(draft)
 }
 

@@ -1,4 +1,4 @@
-use Rattle.std.proofs.Common.{◌≡◌, SFits, w64, rules, arith, neg_ℤ, pos, ◌-ℤ◌, ap, ◌∙◌, take, drop, to_z, of_z}
+use Rattle.std.proofs.Common.{◌≡◌, SFits, w64, rules, arith, neg_ℤ, pos, ◌-ℤ◌, ap}
 use Rattle.std.proofs.lemmas.Int.{ints, to_z-of_z}
 use Rattle.ch_meeting.proofs.RowValues.{same_value}
 use Rattle.ch_meeting.proofs.cells.same_row.Goals as goal

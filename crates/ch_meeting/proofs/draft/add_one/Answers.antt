@@ -15,7 +15,7 @@ returns-clause-small c =
     let f : SFits w64 c.args.coef = search rules in
     on_ok_weaker c.push.result
     (λ e. added_small c.args.coefs.now c.pad.new.coefs c.push.new.self (c.args.coef ∷ []) c.args.variable c.requires.after c.in_ok-pad.ensures e c.requires.small
-        (one_small c.args.coef c.requires.small_one)) (simp to_z-of_z at c.push.ensures.ok)
+    (one_small c.args.coef c.requires.small_one)) (simp to_z-of_z at c.push.ensures.ok)
 
 pub returns-clause-sum : goal.returns-clause-sum
 returns-clause-sum c =

@@ -1,6 +1,5 @@
-use Rattle.std.proofs.Common.{◌≡◌, ◌∙◌, ap, sym, subst, ◌++◌, map, List}
+use Rattle.std.proofs.Common.{◌≡◌, ◌∙◌, ap, sym, subst, ◌++◌, map}
 use Rattle.std.specs.List.{All}
-use Rattle.ch_meeting.specs.declared.orders.Order.{Order}
 use Rattle.ch_meeting.specs.Cases.{IsWithin, behind, orders_of}
 use Rattle.ch_meeting.proofs.Comparisons.{AtLevels, Exact, behind_none, orders_exact, orders_levels, orders_within}
 use Rattle.ch_meeting.proofs.orders.orders.Goals as goal

@@ -1,5 +1,5 @@
-use Rattle.std.proofs.Common.{SFits, w64, rules, arith, neg_ℤ, pos, ◌-ℤ◌, refl, ◌∙◌}
-use Rattle.std.proofs.lemmas.Int.{ints, to_z-of_z}
+use Rattle.std.proofs.Common.{SFits, w64, rules}
+use Rattle.std.proofs.lemmas.Int.{to_z-of_z}
 use Rattle.ch_meeting.proofs.RowValues.{step_value}
 use Rattle.ch_meeting.proofs.orders.step_row.Goals as goal
 

@@ -1,4 +1,4 @@
-use Rattle.std.proofs.Common.{◌≡◌, ◌<◌, ◌≤◌, ◌∙◌, ap, subst, length, get_or}
+use Rattle.std.proofs.Common.{◌≡◌, ◌<◌, ◌∙◌, ap, subst, length, get_or}
 use Rattle.ch_meeting.proofs.Steps.{hold_more, levels_same}
 use Rattle.ch_meeting.proofs.placing.place.Goals as goal
 

@@ -30,5 +30,5 @@ pub returns : goal.returns
 returns c =
     on_ok_weaker c.ask_turned.result
     (λ e. reversal_asked c.args.first.now c.args.second.now c.args.new_first.now c.args.new_second.now c.args.access.now c.args.other.now c.args.draft.now c.put_in_order.new.draft c.ask_meeting.new.draft c.ask_turned.new.draft c.args.order c.args.turn c.variables_of-start.result c.variables_of.result
-        c.len.result c.variables_of-start.ensures c.variables_of.ensures c.len.ensures c.in_ok-put_in_order.ensures c.in_ok-ask_meeting.ensures e)
+    c.len.result c.variables_of-start.ensures c.variables_of.ensures c.len.ensures c.in_ok-put_in_order.ensures c.in_ok-ask_meeting.ensures e)
     c.ask_turned.ensures

@@ -7,4 +7,4 @@ pub returns : goal.returns
 returns c =
     on_ok_weaker c.push-2.result
     (λ e. pushed_both c.args.self.now (record { boxes = c.args.self.now.boxes; rows = c.push.new.self }) (record { boxes = c.args.self.now.boxes; rows = c.push-2.new.self })
-        c.args.row c.in_ok-other.other c.requires.draft c.requires.long c.in_ok-other.ensures refl c.in_ok-push.ensures.ok refl e) c.push-2.ensures.ok
+    c.args.row c.in_ok-other.other c.requires.draft c.requires.long c.in_ok-other.ensures refl c.in_ok-push.ensures.ok refl e) c.push-2.ensures.ok
