@@ -26,6 +26,7 @@ pub record Asks (d : Draft) (boxes : List Range) (P : List ℤ → Type 0) : Typ
 abbrev pub pair_size : Piece → Piece → ℕ
 pair_size p q = p.levels + q.levels + p.hidden + q.hidden
 
+-- the ranges of both pieces' variables, and of the iterators that both are to have
 abbrev pub common_boxes : Piece → Piece → List Range
 common_boxes p q = pair_boxes p q ++ wides (length p.origin)
 
@@ -39,6 +40,7 @@ abbrev pub first_site : Piece → Piece → ℕ → Site
 first_site p q iters =
     record { iters = iters; turns = iters + length p.origin + length q.origin }
 
+-- where what the second access takes stands
 abbrev pub second_site : Piece → Piece → Access → ℕ → Site
 second_site p q a iters = record {
   iters = iters + length p.origin;
@@ -84,6 +86,7 @@ abbrev pub level_by : Bool → ℕ → ℕ
 level_by true equal = suc equal
 level_by false equal = 0
 
+-- the ranges of both pieces' variables, and of those that compare two cells
 abbrev pub meeting_boxes : Piece → Piece → Access → Access → List Range
 meeting_boxes p q a b = pair_boxes p q ++ cell_boxes (length p.origin) (length q.origin) a b
 
@@ -99,6 +102,7 @@ AreTurned o r s start first second z =
     InOrder o (drop start z) (drop (start + s.levels) z) × TiedAt s start second z
     × TiedAt r (start + s.levels) first z × PairAt s r start z
 
+-- the ranges of all four pieces' variables, and of those that compare two cells
 abbrev pub reversal_boxes : Piece → Piece → Piece → Piece → Access → Access → List Range
 reversal_boxes p q r s a b =
     pair_boxes p q ++ (pair_boxes s r ++ cell_boxes (length p.origin) (length q.origin) a b)
@@ -107,6 +111,7 @@ reversal_boxes p q r s a b =
 abbrev pub reversal_iters : Piece → Piece → Piece → Piece → ℕ
 reversal_iters p q r s = pair_size p q + pair_size s r
 
+-- the first two pieces meet in the one order, and the other two are turned in the other
 abbrev pub AreReversal : Order → Order → Piece → Piece → Piece → Piece → Access → Access → List ℤ → Type 0
 AreReversal o t p q r s a b z =
     InOrder o (drop 0 z) (drop p.levels z)
@@ -118,6 +123,7 @@ AreReversal o t p q r s a b z =
 abbrev pub IsReversalBy : Order → Order → Piece → Piece → Piece → Piece → Access → Access → List ℤ → List ℤ → Type 0
 IsReversalBy o t p q r s a b xs ys = IsMeetingBy o p q a b xs ys × IsTurnedBy t p q r s xs ys
 
+-- the second where the test is true, else the first
 abbrev pub second_if : Bool → List ℤ → List ℤ → List ℤ
 second_if true a b = b
 second_if false a b = a

@@ -20,9 +20,11 @@ pub record IsWithin (n m : ℕ) (o : Order) : Type 0 where
 abbrev pub OneOf : {X : Type 0} → (X → Type 0) → List X → Type 0
 OneOf {X} P xs = (x : X) × (In x xs × P x)
 
+-- the order of any two lists of values: a place decides
 abbrev pub always : Order
 always = record { equal = 0; less = false }
 
+-- the order of lists of which the first begins with the lesser value
 abbrev pub at_once : Order
 at_once = record { equal = 0; less = true }
 

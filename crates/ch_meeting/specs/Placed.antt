@@ -56,9 +56,11 @@ SameUpTo n a b here there z = (k : ℕ) (d e : Sub) → k < n
 abbrev pub wide : Range
 wide = record { low = neg_ℤ (pos (2 ^ 54)); high = pos (2 ^ 54) }
 
+-- the range of one number
 abbrev pub only : ℤ → Range
 only x = record { low = x; high = x }
 
+-- the range of the turns of a modulus: none where there is no modulus
 abbrev pub turn_range : ℕ → Range
 turn_range zero = only (pos 0)
 turn_range (suc m) = wide

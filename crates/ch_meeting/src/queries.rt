@@ -374,17 +374,11 @@ fn ask_reversal(
 {
     let start = variables_of(first, second);
     let iters = start + variables_of(new_second, new_first);
+    let others = iters + first.origin.len();
     put_in_order(alloc, draft, order, 0, first.levels as usize)?;
     ask_meeting(alloc, draft, first, second, access, other, iters)?;
     ask_turned(
-        alloc,
-        draft,
-        new_first,
-        new_second,
-        turn,
-        start,
-        iters,
-        iters + first.origin.len(),
+        alloc, draft, new_first, new_second, turn, start, iters, others,
     )
 }
 
