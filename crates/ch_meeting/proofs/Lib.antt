@@ -1,0 +1,12 @@
+pub mod Stretches
+pub mod Least
+pub mod Parts
+pub mod Comparisons
+pub mod Remainders
+pub mod Layouts
+pub mod RowValues
+pub mod Steps
+pub mod Commons
+pub mod Meetings
+pub mod Reversals
+pub mod Levels

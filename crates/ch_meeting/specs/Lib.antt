@@ -1,1 +1,5 @@
+pub mod Asked
+pub mod Cases
+pub mod Drafts
 pub mod Meeting
+pub mod Placed

@@ -1,5 +1,5 @@
 -- Pairs of elements of two pieces that access one cell, and pairs that other pieces have the other way round.
-use Rattle.std.specs.Prelude.{◌≡◌, ◌+◌, ◌≤◌, ◌^◌, ℕ, zero, suc, ℤ, Bool, if◌then◌else◌, Option, Some, None, List, [], ◌∷◌, ◌++◌, length, map, take, drop, IsTrue}
+use Rattle.std.specs.Prelude.{◌≡◌, ◌+◌, ◌≤◌, ◌^◌, ℕ, suc, ℤ, if◌then◌else◌, Option, Some, None, List, ◌∷◌, ◌++◌, length, map, take, drop, IsTrue}
 use Rattle.std.specs.List.{All}
 use Rattle.std.specs.Ordering.{int_eq}
 use Rattle.ch_affine.specs.Affine.{IsAtMost, value}

@@ -2,6 +2,11 @@
 //! the least meeting pair that two other pieces have the other way round.
 #![tactic(auto)]
 
+mod cells;
+mod draft;
+mod layout;
+mod orders;
+mod placing;
 mod queries;
 
 pub use queries::{have_common, least_reversal, meets_at};

@@ -1,0 +1,179 @@
+//! A system of rows over ranges while it is made, and its least point.
+
+ghost use Rattle.std.specs.Prelude.{◌≡◌, ◌≤◌, ◌≤ℤ◌, ◌+◌, ◌^◌, ◌+ℤ◌, ◌-ℤ◌, ◌*ℤ◌, ◌++◌, [], neg_ℤ, pos, ℤ, List, length, map, drop, IfOk, OnOk};
+ghost use Rattle.std.specs.List.{All};
+ghost use Rattle.ch_affine.specs.Affine.{IsAtMost, dot, form, value};
+ghost use Rattle.ch_affine.specs.Rows.{IsSystem};
+ghost use Rattle.ch_meeting.specs.Drafts.{IsDraft, IsLeastFit, Narrows};
+ghost use Rattle.ch_poly.specs.Boxes.{at};
+ghost use Rattle.ch_space.specs.Built.{padded};
+
+use ch_affine::{Aff, List, Range, System};
+use ch_poly::least_point;
+use std::alloc::{AllocError, Global};
+
+/// Ranges of variables, and rows over them.
+#[derive(Debug, Drop)]
+pub(crate) struct Draft {
+    pub(crate) boxes: List<Range>,
+    pub(crate) rows: List<Aff>,
+}
+
+/// Tells a caller what each system keeps by its type. It does nothing.
+pub(crate) fn known(system: &System)
+    ensures { IsSystem system.now }
+{
+    let _ = system.boxes.len();
+}
+
+/// Fills the coefficients up with zeros.
+fn pad(coefs: &mut List<i64>, count: usize) -> Result<(), AllocError>
+    requires { length coefs.old ≤ count }
+    ensures { OnOk result (coefs.new ≡ padded count coefs.old) }
+{
+    for _k in coefs.len()..count {
+        coefs.push(0)?;
+    }
+    Ok(())
+}
+
+fn extend(coefs: &mut List<i64>, more: &[i64]) -> Result<(), AllocError>
+    ensures { OnOk result (coefs.new ≡ coefs.old ++ more.now) }
+{
+    for coef in more {
+        coefs.push(*coef)?;
+    }
+    Ok(())
+}
+
+fn extend_negated(coefs: &mut List<i64>, more: &[i64]) -> Result<(), AllocError>
+    requires { All (IsAtMost (2 ^ 60)) more.now }
+    ensures { OnOk result (coefs.new ≡ coefs.old ++ map neg_ℤ more.now) }
+{
+    for coef in more {
+        coefs.push(-*coef)?;
+    }
+    Ok(())
+}
+
+/// The coefficients of a row in which no variable has one, with memory for so many.
+pub(crate) fn no_coefs(alloc: Global, variables: usize) -> Result<List<i64>, AllocError>
+    ensures long { IfOk result (λ coefs. length coefs ≡ 0) }
+    ensures small { IfOk result (λ coefs. All (IsAtMost (2 ^ 60)) coefs) }
+    ensures sum { IfOk result (λ coefs. (z : List ℤ) → dot coefs z ≡ pos 0) }
+{
+    List::with_capacity(alloc, variables)
+}
+
+/// Gives coefficients to the variables from `start` on.
+pub(crate) fn add(coefs: &mut List<i64>, start: usize, more: &[i64]) -> Result<(), AllocError>
+    requires after { length coefs.old ≤ start }
+    requires small { All (IsAtMost (2 ^ 60)) coefs.old }
+    requires small_more { All (IsAtMost (2 ^ 60)) more.now }
+    ensures long { OnOk result (length coefs.new ≡ start + length more.now) }
+    ensures small { OnOk result (All (IsAtMost (2 ^ 60)) coefs.new) }
+    ensures sum { OnOk result ((z : List ℤ) → dot coefs.new z
+        ≡ dot coefs.old z +ℤ dot more.now (drop start z)) }
+{
+    pad(coefs, start)?;
+    extend(coefs, more)
+}
+
+/// Gives the negatives of these coefficients to the variables from `start` on.
+pub(crate) fn subtract(coefs: &mut List<i64>, start: usize, more: &[i64]) -> Result<(), AllocError>
+    requires after { length coefs.old ≤ start }
+    requires small { All (IsAtMost (2 ^ 60)) coefs.old }
+    requires small_more { All (IsAtMost (2 ^ 60)) more.now }
+    ensures long { OnOk result (length coefs.new ≡ start + length more.now) }
+    ensures small { OnOk result (All (IsAtMost (2 ^ 60)) coefs.new) }
+    ensures sum { OnOk result ((z : List ℤ) → dot coefs.new z
+        ≡ dot coefs.old z -ℤ dot more.now (drop start z)) }
+{
+    pad(coefs, start)?;
+    extend_negated(coefs, more)
+}
+
+/// Gives a coefficient to one variable.
+pub(crate) fn add_one(coefs: &mut List<i64>, variable: usize, coef: i64) -> Result<(), AllocError>
+    requires after { length coefs.old ≤ variable }
+    requires small { All (IsAtMost (2 ^ 60)) coefs.old }
+    requires small_one { IsAtMost (2 ^ 60) coef }
+    ensures long { OnOk result (length coefs.new ≡ variable + 1) }
+    ensures small { OnOk result (All (IsAtMost (2 ^ 60)) coefs.new) }
+    ensures sum { OnOk result ((z : List ℤ) → dot coefs.new z
+        ≡ dot coefs.old z +ℤ (coef *ℤ at z variable)) }
+{
+    pad(coefs, variable)?;
+    coefs.push(coef)
+}
+
+/// The row of these coefficients, in which no further variable has one.
+pub(crate) fn row(mut coefs: List<i64>, variables: usize, constant: i64) -> Result<Aff, AllocError>
+    requires fits { length coefs ≤ variables }
+    requires few { variables ≤ 4096 }
+    requires small { All (IsAtMost (2 ^ 60)) coefs }
+    requires constant { IsAtMost (2 ^ 60) constant }
+    ensures long { IfOk result (λ row. length row.coefs ≡ variables) }
+    ensures value { IfOk result (λ row. (z : List ℤ) → value row z ≡ constant +ℤ dot coefs z) }
+{
+    pad(&mut coefs, variables)?;
+    Ok(Aff { coefs, constant })
+}
+
+/// The row of the negative values.
+fn opposite(alloc: Global, row: &Aff) -> Result<Aff, AllocError>
+    ensures { IfOk result (λ other. other ≡ form (map neg_ℤ row.now.coefs) (neg_ℤ row.now.constant)) }
+{
+    let mut coefs = List::with_capacity(alloc, row.coefs.len())?;
+    extend_negated(&mut coefs, row.coefs.as_slice())?;
+    Ok(Aff {
+        coefs,
+        constant: -row.constant,
+    })
+}
+
+impl Draft {
+    /// A draft without rows.
+    pub(crate) fn new(alloc: Global, boxes: List<Range>) -> Draft
+        ensures boxes { result.boxes ≡ boxes }
+        ensures rows { result.rows ≡ [] }
+    {
+        Draft {
+            boxes,
+            rows: List::new(alloc),
+        }
+    }
+
+    /// Asks for points at which the row is at least 0.
+    pub(crate) fn at_least_zero(&mut self, row: Aff) -> Result<(), AllocError>
+        requires draft { IsDraft self.old }
+        requires long { length row.coefs ≡ length self.old.boxes }
+        ensures { OnOk result (Narrows self.old self.new (λ z. pos 0 ≤ℤ value row z)) }
+    {
+        self.rows.push(row)
+    }
+
+    /// Asks for points at which the row is 0.
+    pub(crate) fn zero(&mut self, alloc: Global, row: Aff) -> Result<(), AllocError>
+        requires draft { IsDraft self.old }
+        requires long { length row.coefs ≡ length self.old.boxes }
+        ensures { OnOk result (Narrows self.old self.new (λ z. value row z ≡ pos 0)) }
+    {
+        let other = opposite(alloc, &row)?;
+        self.rows.push(row)?;
+        self.rows.push(other)
+    }
+
+    /// The least point. All its variables count, from the first on.
+    pub(crate) fn least(self, alloc: Global) -> Result<Option<List<i64>>, AllocError>
+        requires { IsDraft self }
+        ensures { IfOk result (λ point. IsLeastFit self point) }
+    {
+        let system = System {
+            vars: self.boxes.len() as u32,
+            rows: self.rows,
+            boxes: self.boxes,
+        };
+        least_point(alloc, &system)
+    }
+}
