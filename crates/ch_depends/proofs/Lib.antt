@@ -1,0 +1,9 @@
+pub mod Bests
+pub mod Asked
+pub mod Plains
+pub mod Overtaken
+pub mod Listing
+pub mod Dependences
+pub mod Points
+pub mod Gathered
+pub mod Answering

@@ -1,0 +1,224 @@
+//! The least pair of elements that conflict and that another list has the other way round.
+
+ghost use Rattle.std.specs.Prelude.{◌≡◌, map, IfOk};
+ghost use Rattle.std.specs.List.{All};
+ghost use Rattle.ch_depends.specs.Sought.{Conflicts, IsBest, IsSide, Reversed, Reverses, SomeOf, lesser, pair_order, partners_of};
+ghost use Rattle.ch_meeting.specs.Meeting.{IsAccessOf, IsPlain};
+ghost use Rattle.ch_space.specs.Pieces.{element_at, instances};
+ghost use Rattle.ch_timed.specs.Members.{In};
+
+use crate::elements::element_at;
+use crate::sides::Side;
+use ch_meeting::least_reversal;
+use ch_nest::Access;
+use ch_space::Piece;
+use ch_timed::Element;
+use std::alloc::{AllocError, Global};
+use std::cmp::Ordering;
+
+/// An element, and a later one that conflicts with it.
+#[derive(Debug, Drop)]
+pub(crate) struct Candidate {
+    pub(crate) first: Element,
+    pub(crate) second: Element,
+}
+
+fn pair_order(a: &Candidate, b: &Candidate) -> Ordering
+    ensures { result ≡ pair_order a.now b.now }
+{
+    let firsts = a.first.vector.as_slice().cmp(b.first.vector.as_slice());
+    firsts.then(a.second.vector.as_slice().cmp(b.second.vector.as_slice()))
+}
+
+/// The one that comes first.
+fn lesser(first: Option<Candidate>, second: Option<Candidate>) -> Option<Candidate>
+    ensures { result ≡ lesser first second }
+{
+    match (first, second) {
+        (None, second) => second,
+        (first, None) => first,
+        (Some(first), Some(second)) => {
+            if pair_order(&second, &first).is_lt() {
+                Some(second)
+            } else {
+                Some(first)
+            }
+        }
+    }
+}
+
+fn candidate_at(
+    alloc: Global,
+    p: &Piece,
+    q: &Piece,
+    xs: &[i64],
+    ys: &[i64],
+) -> Result<Candidate, AllocError>
+    requires p { IsPlain p.now }
+    requires q { IsPlain q.now }
+    requires xs { In xs.now (instances p.now) }
+    requires ys { In ys.now (instances q.now) }
+    ensures first { IfOk result (λ c. c.first ≡ element_at p.now xs.now) }
+    ensures second { IfOk result (λ c. c.second ≡ element_at q.now ys.now) }
+{
+    let first = element_at(alloc, p, xs)?;
+    let second = element_at(alloc, q, ys)?;
+    Ok(Candidate { first, second })
+}
+
+/// The least pair that two accesses make conflict, where `r` and `s` have it the other way round.
+fn least_by(
+    alloc: Global,
+    p: &Piece,
+    q: &Piece,
+    r: &Piece,
+    s: &Piece,
+    access: &Access,
+    other: &Access,
+) -> Result<Option<Candidate>, AllocError>
+    requires p { IsPlain p.now }
+    requires q { IsPlain q.now }
+    requires r { IsPlain r.now }
+    requires s { IsPlain s.now }
+    requires access { IsAccessOf p.now access.now }
+    requires other { IsAccessOf q.now other.now }
+    ensures { IfOk result (IsBest (Reverses p.now q.now r.now s.now access.now other.now)) }
+{
+    match least_reversal(alloc, p, q, r, s, access, other)? {
+        None => Ok(None),
+        Some(point) => {
+            let (xs, ys) = point.as_slice().split_at(p.levels as usize);
+            Ok(Some(candidate_at(alloc, p, q, xs, ys)?))
+        }
+    }
+}
+
+/// The same over the write of `p` and each of some reads of `q`.
+fn least_with_reads(
+    alloc: Global,
+    p: &Piece,
+    q: &Piece,
+    r: &Piece,
+    s: &Piece,
+    others: &[&Access],
+) -> Result<Option<Candidate>, AllocError>
+    requires p { IsPlain p.now }
+    requires q { IsPlain q.now }
+    requires r { IsPlain r.now }
+    requires s { IsPlain s.now }
+    requires access { IsAccessOf p.now p.now.body.write }
+    requires others { All (IsAccessOf q.now) (map (λ a. a.now) others.now) }
+    ensures { IfOk result (IsBest (SomeOf (map (λ a. a.now) others.now)
+        (Reverses p.now q.now r.now s.now p.now.body.write))) }
+{
+    let mut best = None;
+    for other in others {
+        best = lesser(best, least_by(alloc, p, q, r, s, &p.body.write, other)?);
+    }
+    Ok(best)
+}
+
+/// The same over each of some reads of `p` and the write of `q`.
+fn least_with_write(
+    alloc: Global,
+    p: &Piece,
+    q: &Piece,
+    r: &Piece,
+    s: &Piece,
+    reads: &[&Access],
+) -> Result<Option<Candidate>, AllocError>
+    requires p { IsPlain p.now }
+    requires q { IsPlain q.now }
+    requires r { IsPlain r.now }
+    requires s { IsPlain s.now }
+    requires reads { All (IsAccessOf p.now) (map (λ a. a.now) reads.now) }
+    requires other { IsAccessOf q.now q.now.body.write }
+    ensures { IfOk result (IsBest (SomeOf (map (λ a. a.now) reads.now)
+        (λ a. Reverses p.now q.now r.now s.now a q.now.body.write))) }
+{
+    let mut best = None;
+    for access in reads {
+        best = lesser(best, least_by(alloc, p, q, r, s, access, &q.body.write)?);
+    }
+    Ok(best)
+}
+
+/// The same over all accesses of which one is a write.
+fn least_between(
+    alloc: Global,
+    from: &Side,
+    to: &Side,
+    r: &Piece,
+    s: &Piece,
+) -> Result<Option<Candidate>, AllocError>
+    requires from { IsSide from.now }
+    requires to { IsSide to.now }
+    requires r { IsPlain r.now }
+    requires s { IsPlain s.now }
+    ensures { IfOk result (IsBest (Conflicts from.now.piece.now to.now.piece.now r.now s.now)) }
+{
+    let p = from.piece;
+    let q = to.piece;
+    let both = least_by(alloc, p, q, r, s, &p.body.write, &q.body.write)?;
+    let later = least_with_reads(alloc, p, q, r, s, to.reads.as_slice())?;
+    let earlier = least_with_write(alloc, p, q, r, s, from.reads.as_slice())?;
+    Ok(lesser(lesser(both, later), earlier))
+}
+
+/// The same over the second side's partners.
+fn least_after(
+    alloc: Global,
+    from: &Side,
+    to: &Side,
+    r: &Piece,
+) -> Result<Option<Candidate>, AllocError>
+    requires from { IsSide from.now }
+    requires to { IsSide to.now }
+    requires r { IsPlain r.now }
+    ensures { IfOk result (IsBest (SomeOf (partners_of to.now)
+        (Conflicts from.now.piece.now to.now.piece.now r.now))) }
+{
+    let mut best = None;
+    for s in to.partners.as_slice() {
+        best = lesser(best, least_between(alloc, from, to, r, s)?);
+    }
+    Ok(best)
+}
+
+/// The least pair of elements of two sides that some of their partners have the other way round.
+fn least_of_sides(alloc: Global, from: &Side, to: &Side) -> Result<Option<Candidate>, AllocError>
+    requires from { IsSide from.now }
+    requires to { IsSide to.now }
+    ensures { IfOk result (IsBest (Reversed from.now to.now)) }
+{
+    let mut best = None;
+    for r in from.partners.as_slice() {
+        best = lesser(best, least_after(alloc, from, to, r)?);
+    }
+    Ok(best)
+}
+
+/// The same over all second sides.
+fn least_from(alloc: Global, from: &Side, sides: &[Side]) -> Result<Option<Candidate>, AllocError>
+    requires from { IsSide from.now }
+    requires sides { All IsSide sides.now }
+    ensures { IfOk result (IsBest (SomeOf sides.now (Reversed from.now))) }
+{
+    let mut best = None;
+    for to in sides {
+        best = lesser(best, least_of_sides(alloc, from, to)?);
+    }
+    Ok(best)
+}
+
+/// The least pair of elements of any two sides that some of their partners have the other way round.
+pub(crate) fn least(alloc: Global, sides: &[Side]) -> Result<Option<Candidate>, AllocError>
+    requires { All IsSide sides.now }
+    ensures { IfOk result (IsBest (SomeOf sides.now (λ s. SomeOf sides.now (Reversed s)))) }
+{
+    let mut best = None;
+    for from in sides {
+        best = lesser(best, least_from(alloc, from, sides)?);
+    }
+    Ok(best)
+}

@@ -1,0 +1,17 @@
+//! Dependences between the elements of spaces: the least pair that a second space has the other way round, and which pieces depend
+//! on one another.
+#![tactic(auto)]
+
+mod answers;
+mod candidates;
+mod cells;
+mod elements;
+mod levels;
+mod reversal;
+mod sides;
+#[cfg(test)]
+mod tests;
+
+pub use answers::{Level, Pair};
+pub use levels::pairs;
+pub use reversal::reversed;
