@@ -38,7 +38,6 @@ fn answer(alloc: Global, candidate: Candidate) -> Result<Option<Pair>, AllocErro
 /// the least second one. None exactly where there is none.
 pub fn reversed(alloc: Global, old: &Space, new: &Space) -> Result<Option<Pair>, AllocError>
     requires kept { AreAmong old.now.list new.now.list }
-    requires no_others { AreAmong new.now.list old.now.list }
     ensures { IfOk result (λ pair. pair ≡ pair_of (reversed old.now.list new.now.list)) }
 {
     let sides = all_sides(alloc, old.pieces.as_slice(), new.pieces.as_slice())?;

@@ -66,9 +66,12 @@ module _ (placed : List ℤ → List ℤ) (g : Element → Element) (weight comm
   apart_kept [] [] r o a = tt
   apart_kept [] (q ∷ qs) r o a = absurd r
   apart_kept (p ∷ ps) [] r o a = absurd r
-  apart_kept (p ∷ ps) (q ∷ qs) r o a =
-      (r.0.whole, some_kept p q r.0 a.1, subst (λ z. AllLater z qs) (sym r.0.places) (later_kept p ps qs r.1 (λ s i. o p s (inl refl) (inr i)) a.2),
-        apart_kept ps qs r.1 (λ s t i j. o s t (inr i) (inr j)) a.3)
+  apart_kept (p ∷ ps) (q ∷ qs) r o a = (
+    r.0.whole,
+    some_kept p q r.0 a.1,
+    subst (λ z. AllLater z qs) (sym r.0.places) (later_kept p ps qs r.1 (λ s i. o p s (inl refl) (inr i)) a.2),
+    apart_kept ps qs r.1 (λ s t i j. o s t (inr i) (inr j)) a.3,
+  )
 
   forth_all : (ps qs : List Piece) → AllReplaced placed g weight commands ps qs → (e : Element) → In e (flat_map elements ps) → In (g e) (flat_map elements qs)
   forth_all [] [] r e i = absurd i
@@ -121,9 +124,9 @@ map_differs : (g : Element → Element) (xs : List Element) → IsAscending (λ 
 map_differs g [] a h = tt
 map_differs g (x ∷ xs) a h = (
   (λ y i v.
-  let s = in_map g xs y i in
-  let same : x ≡ s.0 = h x s.0 (inl refl) (inr s.1.0) (v ∙ ap (λ z. z.vector) (sym s.1.1)) in
-  not_itself (λ (e : Element). e.vector) x (subst (λ z. slice_cmp int_cmp x.vector z.vector ≡ Less) (sym same) (at_each (λ y. slice_cmp int_cmp x.vector y.vector ≡ Less) xs a.0 s.0 s.1.0))),
+      let s = in_map g xs y i in
+      let same : x ≡ s.0 = h x s.0 (inl refl) (inr s.1.0) (v ∙ ap (λ z. z.vector) (sym s.1.1)) in
+      not_itself (λ (e : Element). e.vector) x (subst (λ z. slice_cmp int_cmp x.vector z.vector ≡ Less) (sym same) (at_each (λ y. slice_cmp int_cmp x.vector y.vector ≡ Less) xs a.0 s.0 s.1.0))),
   map_differs g xs a.1 (λ e f i j. h e f (inr i) (inr j)),
 )
 

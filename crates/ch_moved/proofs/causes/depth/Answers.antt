@@ -29,7 +29,7 @@ returns c =
     let p = c.index-as_slice-number.result in
     let at : p ≡ get_or c.as_slice.result.now (unsigned_abs c.args.number) p = simp to_z-of_z at c.index-as_slice-number.is in
     let s =
-        ap places_of at
-        ∙ places_at c.args.space.now.list c.space.inside.pieces c.space.invariant.apart (ap (λ (r : Listed). r.list) c.space.view_is) c.as_slice.result.now (unsigned_abs c.args.number) p c.as_slice.ensures n in
+    ap places_of at
+    ∙ places_at c.args.space.now.list c.space.inside.pieces c.space.invariant.apart (ap (λ (r : Listed). r.list) c.space.view_is) c.as_slice.result.now (unsigned_abs c.args.number) p c.as_slice.ensures n in
     let l = length-map p.places pos in
     depth_is c.args.space.now.list c.args.number (places_of p) c.saturating_sub.result c.requires s (c.saturating_sub.ensures ∙ ap (λ m. m - 1) (c.len.ensures ∙ sym l))

@@ -50,9 +50,9 @@ returns-clause-kept c =
     let h = simp to_z-of_z at c.in_ok-pieces.ensures in
     let light = c.space.invariant.small_weight in
     let m =
-        makes (λ list. in_moving list (pos (unsigned_abs c.args.number)) (moving 1 c.args.order.now)) (picked c.args.order.now) 1 c.space.inside.arrays c.space.inside.weight c.space.inside.commands
-        c.space.inside.pieces c.as_slice.result.now c.in_ok-pieces.pieces c.space.inside.counts c.in_ok-counts.counts c.space.inside.temps c.args.space.now (omega arith) c.space.invariant
-        c.space.view_is c.requires.few (omega arith) c.as_slice.ensures (c.in_ok-counts.ensures ∙ c.as_slice-2.ensures) h in
+    makes (λ list. in_moving list (pos (unsigned_abs c.args.number)) (moving 1 c.args.order.now)) (picked c.args.order.now) 1 c.space.inside.arrays c.space.inside.weight c.space.inside.commands
+    c.space.inside.pieces c.as_slice.result.now c.in_ok-pieces.pieces c.space.inside.counts c.in_ok-counts.counts c.space.inside.temps c.args.space.now (omega arith) c.space.invariant
+    c.space.view_is c.requires.few (omega arith) c.as_slice.ensures (c.in_ok-counts.ensures ∙ c.as_slice-2.ensures) h in
     kept_in c.closed_space.result (listed c.in_ok-pieces.pieces) (λ z. AreAmong c.args.space.now.list z) c.closed_space.ensures.list m.2
 
 pub returns-clause-no_others : goal.returns-clause-no_others
@@ -62,7 +62,7 @@ returns-clause-no_others c =
     let h = simp to_z-of_z at c.in_ok-pieces.ensures in
     let light = c.space.invariant.small_weight in
     let m =
-        makes (λ list. in_moving list (pos (unsigned_abs c.args.number)) (moving 1 c.args.order.now)) (picked c.args.order.now) 1 c.space.inside.arrays c.space.inside.weight c.space.inside.commands
-        c.space.inside.pieces c.as_slice.result.now c.in_ok-pieces.pieces c.space.inside.counts c.in_ok-counts.counts c.space.inside.temps c.args.space.now (omega arith) c.space.invariant
-        c.space.view_is c.requires.few (omega arith) c.as_slice.ensures (c.in_ok-counts.ensures ∙ c.as_slice-2.ensures) h in
+    makes (λ list. in_moving list (pos (unsigned_abs c.args.number)) (moving 1 c.args.order.now)) (picked c.args.order.now) 1 c.space.inside.arrays c.space.inside.weight c.space.inside.commands
+    c.space.inside.pieces c.as_slice.result.now c.in_ok-pieces.pieces c.space.inside.counts c.in_ok-counts.counts c.space.inside.temps c.args.space.now (omega arith) c.space.invariant
+    c.space.view_is c.requires.few (omega arith) c.as_slice.ensures (c.in_ok-counts.ensures ∙ c.as_slice-2.ensures) h in
     kept_in c.closed_space.result (listed c.in_ok-pieces.pieces) (λ z. AreAmong z c.args.space.now.list) c.closed_space.ensures.list m.3

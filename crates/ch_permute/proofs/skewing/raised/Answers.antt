@@ -43,9 +43,9 @@ returns-clause-kept c =
     let h = simp to_z-of_z at c.in_ok-pieces.ensures in
     let w : c.space.inside.weight * growth c.args.amounts.now ≡ c.args.weight = ap (λ (r : Listed). r.weight * growth c.args.amounts.now) c.space.view_is ∙ sym c.requires.weight in
     let m =
-        makes (λ list. is_named list c.args.numbers.now) (plus (form c.args.amounts.now c.args.amount) (natural c.args.level - 1)) (growth c.args.amounts.now) c.space.inside.arrays c.space.inside.weight
-        c.space.inside.commands c.space.inside.pieces c.as_slice-old.result.now c.in_ok-pieces.pieces c.space.inside.counts c.in_ok-counts.counts c.space.inside.temps c.args.space.now (omega arith)
-        c.space.invariant c.space.view_is c.requires.few (let l = c.requires.light in omega arith) c.as_slice-old.ensures (c.in_ok-counts.ensures ∙ c.as_slice.ensures) h in
+    makes (λ list. is_named list c.args.numbers.now) (plus (form c.args.amounts.now c.args.amount) (natural c.args.level - 1)) (growth c.args.amounts.now) c.space.inside.arrays c.space.inside.weight
+    c.space.inside.commands c.space.inside.pieces c.as_slice-old.result.now c.in_ok-pieces.pieces c.space.inside.counts c.in_ok-counts.counts c.space.inside.temps c.args.space.now (omega arith)
+    c.space.invariant c.space.view_is c.requires.few (let l = c.requires.light in omega arith) c.as_slice-old.ensures (c.in_ok-counts.ensures ∙ c.as_slice.ensures) h in
     kept_in c.closed_space.result (listed c.in_ok-pieces.pieces) (λ z. AreAmong c.args.space.now.list z) c.closed_space.ensures.list m.2
 
 pub returns-clause-no_others : goal.returns-clause-no_others
@@ -55,7 +55,7 @@ returns-clause-no_others c =
     let h = simp to_z-of_z at c.in_ok-pieces.ensures in
     let w : c.space.inside.weight * growth c.args.amounts.now ≡ c.args.weight = ap (λ (r : Listed). r.weight * growth c.args.amounts.now) c.space.view_is ∙ sym c.requires.weight in
     let m =
-        makes (λ list. is_named list c.args.numbers.now) (plus (form c.args.amounts.now c.args.amount) (natural c.args.level - 1)) (growth c.args.amounts.now) c.space.inside.arrays c.space.inside.weight
-        c.space.inside.commands c.space.inside.pieces c.as_slice-old.result.now c.in_ok-pieces.pieces c.space.inside.counts c.in_ok-counts.counts c.space.inside.temps c.args.space.now (omega arith)
-        c.space.invariant c.space.view_is c.requires.few (let l = c.requires.light in omega arith) c.as_slice-old.ensures (c.in_ok-counts.ensures ∙ c.as_slice.ensures) h in
+    makes (λ list. is_named list c.args.numbers.now) (plus (form c.args.amounts.now c.args.amount) (natural c.args.level - 1)) (growth c.args.amounts.now) c.space.inside.arrays c.space.inside.weight
+    c.space.inside.commands c.space.inside.pieces c.as_slice-old.result.now c.in_ok-pieces.pieces c.space.inside.counts c.in_ok-counts.counts c.space.inside.temps c.args.space.now (omega arith)
+    c.space.invariant c.space.view_is c.requires.few (let l = c.requires.light in omega arith) c.as_slice-old.ensures (c.in_ok-counts.ensures ∙ c.as_slice.ensures) h in
     kept_in c.closed_space.result (listed c.in_ok-pieces.pieces) (λ z. AreAmong z c.args.space.now.list) c.closed_space.ensures.list m.3

@@ -1,5 +1,0 @@
-pub mod Tiles
-pub mod Insertions
-pub mod TiledPieces
-pub mod Tiling
-pub mod TiledPlaces

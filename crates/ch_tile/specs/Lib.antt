@@ -1,2 +1,0 @@
-pub mod Tiled
-pub mod Layout

@@ -1,6 +1,0 @@
-//! Tiling: a loop over tiles of a level's values, put around other loops.
-#![tactic(auto)]
-
-mod cause;
-mod layout;
-

@@ -1,3 +1,0 @@
-//! Tiling a space.
-
-use ch_space::Space;
