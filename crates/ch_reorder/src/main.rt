@@ -8,6 +8,7 @@
 
 mod recipe;
 mod verdict;
+mod walk;
 
 use anyhow::{Context, Result};
 use std::alloc::{AllocError, Global};

@@ -4,6 +4,7 @@ ghost use Rattle.std.specs.Prelude.{◌≡◌};
 ghost use Rattle.ch_order.specs.Legal.{AreAmong};
 
 use crate::recipe::applied;
+use crate::walk::agrees;
 use ch_affine::Text;
 use ch_deck::{DeckError, Program, read_deck};
 use ch_depends::{Pair, pairs, reversed};
@@ -111,9 +112,12 @@ fn judged(
             Err(ShapeError::Shape(cause)) => return shape_text(alloc, step, cause),
         };
         let pair = asked(alloc, &space, &new, repeats)?;
-        // Another way to the same answer: a walk over all pairs of elements.
+        // Two other ways to the same answer.
         if same_meaning(alloc, &space, &new)? != pair.is_none() {
-            return text(alloc, b"the walk disagrees");
+            return text(alloc, b"the comparison of both lists disagrees");
+        }
+        if !agrees(alloc, &space, &new, pair.as_ref())? {
+            return text(alloc, b"the walk over all pairs disagrees");
         }
         if let Some(pair) = pair {
             return pair_text(alloc, step, arrays, &pair);
