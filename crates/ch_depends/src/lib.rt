@@ -9,8 +9,6 @@ mod elements;
 mod levels;
 mod reversal;
 mod sides;
-#[cfg(test)]
-mod tests;
 
 pub use answers::{Level, Pair};
 pub use levels::pairs;
