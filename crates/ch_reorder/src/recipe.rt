@@ -33,8 +33,7 @@ const UNKNOWN: ShapeError = ShapeError::Shape(Shape { code: 0, number: 0 });
 
 /// The space after a command, where it has this name and these arguments. A word that is no command is answered as the cause 0.
 pub(crate) fn applied(alloc: Global, space: &Space, command: &str) -> Result<Space, ShapeError>
-    ensures kept { IfOk result (λ new. AreAmong space.now.list new.list) }
-    ensures no_others { IfOk result (λ new. AreAmong new.list space.now.list) }
+    ensures { IfOk result (λ new. AreAmong space.now.list new.list) }
 {
     let mut words = command.split(' ').filter(|word| !word.is_empty());
     let name = words.next().unwrap_or("");

@@ -1,6 +1,5 @@
 //! What a recipe says of the program of a deck.
 
-ghost use Rattle.std.specs.Prelude.{◌≡◌};
 ghost use Rattle.ch_order.specs.Legal.{AreAmong};
 
 use crate::recipe::applied;
@@ -15,12 +14,6 @@ use ch_space::{ShapeError, Space, SpaceError, count, of_nest, pieces};
 use ch_timed::Cell;
 use std::alloc::{AllocError, Global};
 
-fn text(alloc: Global, bytes: &[u8]) -> Result<Text, AllocError> {
-    let mut out = Text::new(alloc);
-    out.append(bytes)?;
-    Ok(out)
-}
-
 fn put_place(out: &mut Text, arrays: &[ArrayDecl], cell: &Cell) -> Result<(), AllocError> {
     let subscripts = cell.subs.as_slice();
     match arrays.get(cell.array as usize) {
@@ -31,7 +24,8 @@ fn put_place(out: &mut Text, arrays: &[ArrayDecl], cell: &Cell) -> Result<(), Al
 
 /// The refusal of a command by its shape. C3 and C10 have no number.
 fn shape_text(alloc: Global, step: u64, cause: Shape) -> Result<Text, AllocError> {
-    let mut out = text(alloc, b"shape at ")?;
+    let mut out = Text::new(alloc);
+    out.append(b"shape at ")?;
     put_number(&mut out, step)?;
     out.append(b": C")?;
     put_number(&mut out, u64::from(cause.code))?;
@@ -49,7 +43,8 @@ fn pair_text(
     arrays: &[ArrayDecl],
     pair: &Pair,
 ) -> Result<Text, AllocError> {
-    let mut out = text(alloc, b"illegal at ")?;
+    let mut out = Text::new(alloc);
+    out.append(b"illegal at ")?;
     put_number(&mut out, step)?;
     out.append(b": ")?;
     put_identity(&mut out, &pair.first)?;
@@ -61,7 +56,8 @@ fn pair_text(
 }
 
 fn legal_text(alloc: Global, space: &Space) -> Result<Text, AllocError> {
-    let mut out = text(alloc, b"legal pieces ")?;
+    let mut out = Text::new(alloc);
+    out.append(b"legal pieces ")?;
     put_number(&mut out, u64::from(pieces(space)))?;
     out.append(b" instances ")?;
     put_number(&mut out, count(space))?;
@@ -70,7 +66,8 @@ fn legal_text(alloc: Global, space: &Space) -> Result<Text, AllocError> {
 
 /// The dependences of the program itself: the numbers of both pieces, and the level.
 fn pairs_text(alloc: Global, space: &Space) -> Result<Text, AllocError> {
-    let mut out = text(alloc, b"depends")?;
+    let mut out = Text::new(alloc);
+    out.append(b"depends")?;
     for level in pairs(alloc, space)?.as_slice() {
         out.append(b" (")?;
         put_number(&mut out, u64::from(level.from))?;
@@ -85,8 +82,7 @@ fn pairs_text(alloc: Global, space: &Space) -> Result<Text, AllocError> {
 
 /// The least reversed pair, asked for so many times.
 fn asked(alloc: Global, old: &Space, new: &Space, repeats: u32) -> Result<Option<Pair>, AllocError>
-    requires kept { AreAmong old.now.list new.now.list }
-    requires no_others { AreAmong new.now.list old.now.list }
+    requires { AreAmong old.now.list new.now.list }
 {
     for _ in 1..repeats {
         let _pair = reversed(alloc, old, new)?;
@@ -94,7 +90,59 @@ fn asked(alloc: Global, old: &Space, new: &Space, repeats: u32) -> Result<Option
     reversed(alloc, old, new)
 }
 
-/// What the recipe says of a space, step by step.
+/// What one command leaves: a space to go on with, or a refusal.
+enum Step {
+    Next(Space),
+    Refused(Text),
+}
+
+/// A space that may stand for the one before it, or the pair that is reversed. Two other ways lead to the same answer.
+fn compared(
+    alloc: Global,
+    number: u64,
+    arrays: &[ArrayDecl],
+    old: &Space,
+    new: Space,
+    repeats: u32,
+) -> Result<Step, AllocError>
+    requires { AreAmong old.now.list new.list }
+{
+    let pair = asked(alloc, old, &new, repeats)?;
+    if same_meaning(alloc, old, &new)? != pair.is_none() {
+        return Ok(Step::Refused(disagreement(alloc)?));
+    }
+    if !agrees(alloc, old, &new, pair.as_ref())? {
+        return Ok(Step::Refused(disagreement(alloc)?));
+    }
+    match pair {
+        None => Ok(Step::Next(new)),
+        Some(pair) => Ok(Step::Refused(pair_text(alloc, number, arrays, &pair)?)),
+    }
+}
+
+fn disagreement(alloc: Global) -> Result<Text, AllocError> {
+    let mut out = Text::new(alloc);
+    out.append(b"a walk over all elements disagrees")?;
+    Ok(out)
+}
+
+/// What the command of this number leaves.
+fn step(
+    alloc: Global,
+    number: u64,
+    arrays: &[ArrayDecl],
+    space: &Space,
+    command: &str,
+    repeats: u32,
+) -> Result<Step, AllocError> {
+    match applied(alloc, space, command) {
+        Ok(new) => compared(alloc, number, arrays, space, new, repeats),
+        Err(ShapeError::Memory) => Err(AllocError),
+        Err(ShapeError::Shape(cause)) => Ok(Step::Refused(shape_text(alloc, number, cause)?)),
+    }
+}
+
+/// What the recipe says of a space, command by command.
 fn judged(
     alloc: Global,
     arrays: &[ArrayDecl],
@@ -103,28 +151,19 @@ fn judged(
     repeats: u32,
 ) -> Result<Text, AllocError> {
     let mut space = space;
-    let mut step = 0;
-    for command in recipe.split(';') {
-        step += 1;
-        let new = match applied(alloc, &space, command) {
-            Ok(new) => new,
-            Err(ShapeError::Memory) => return Err(AllocError),
-            Err(ShapeError::Shape(cause)) => return shape_text(alloc, step, cause),
-        };
-        let pair = asked(alloc, &space, &new, repeats)?;
-        // Two other ways to the same answer.
-        if same_meaning(alloc, &space, &new)? != pair.is_none() {
-            return text(alloc, b"the comparison of both lists disagrees");
+    for (k, command) in recipe.split(';').enumerate() {
+        match step(alloc, k as u64 + 1, arrays, &space, command, repeats)? {
+            Step::Refused(answer) => return Ok(answer),
+            Step::Next(new) => space = new,
         }
-        if !agrees(alloc, &space, &new, pair.as_ref())? {
-            return text(alloc, b"the walk over all pairs disagrees");
-        }
-        if let Some(pair) = pair {
-            return pair_text(alloc, step, arrays, &pair);
-        }
-        space = new;
     }
     legal_text(alloc, &space)
+}
+
+fn refused(alloc: Global) -> Result<Text, AllocError> {
+    let mut out = Text::new(alloc);
+    out.append(b"the deck is refused")?;
+    Ok(out)
 }
 
 fn of_program(
@@ -136,7 +175,7 @@ fn of_program(
     let space = match of_nest(alloc, &program.nest) {
         Ok(space) => space,
         Err(SpaceError::Memory) => return Err(AllocError),
-        Err(_) => return text(alloc, b"refused"),
+        Err(_) => return refused(alloc),
     };
     if recipe == "pairs" {
         return pairs_text(alloc, &space);
@@ -160,10 +199,10 @@ pub(crate) fn verdict(
     let deck = match read_deck(alloc, deck.as_bytes()) {
         Ok(deck) => deck,
         Err(DeckError::Memory) => return Err(AllocError),
-        Err(DeckError::Refused(_)) => return text(alloc, b"refused"),
+        Err(DeckError::Refused(_)) => return refused(alloc),
     };
     match deck.programs().first() {
-        None => text(alloc, b"no program"),
+        None => refused(alloc),
         Some(program) => of_program(alloc, program, recipe, repeats),
     }
 }

@@ -46,7 +46,8 @@ fn push_cell(
     cells.push(Cell {
         array: access.array,
         subs,
-    })
+    })?;
+    Ok(())
 }
 
 /// Adds the cells that a right side reads, from left to right.
