@@ -91,7 +91,7 @@ fn asked(alloc: Global, old: &Space, new: &Space, repeats: u32) -> Result<Option
 }
 
 /// What one command leaves: a space to go on with, or a refusal.
-enum Step {
+enum Outcome {
     Next(Space),
     Refused(Text),
 }
@@ -104,19 +104,19 @@ fn compared(
     old: &Space,
     new: Space,
     repeats: u32,
-) -> Result<Step, AllocError>
+) -> Result<Outcome, AllocError>
     requires { AreAmong old.now.list new.list }
 {
     let pair = asked(alloc, old, &new, repeats)?;
     if same_meaning(alloc, old, &new)? != pair.is_none() {
-        return Ok(Step::Refused(disagreement(alloc)?));
+        return Ok(Outcome::Refused(disagreement(alloc)?));
     }
     if !agrees(alloc, old, &new, pair.as_ref())? {
-        return Ok(Step::Refused(disagreement(alloc)?));
+        return Ok(Outcome::Refused(disagreement(alloc)?));
     }
     match pair {
-        None => Ok(Step::Next(new)),
-        Some(pair) => Ok(Step::Refused(pair_text(alloc, number, arrays, &pair)?)),
+        None => Ok(Outcome::Next(new)),
+        Some(pair) => Ok(Outcome::Refused(pair_text(alloc, number, arrays, &pair)?)),
     }
 }
 
@@ -134,11 +134,11 @@ fn step(
     space: &Space,
     command: &str,
     repeats: u32,
-) -> Result<Step, AllocError> {
+) -> Result<Outcome, AllocError> {
     match applied(alloc, space, command) {
         Ok(new) => compared(alloc, number, arrays, space, new, repeats),
         Err(ShapeError::Memory) => Err(AllocError),
-        Err(ShapeError::Shape(cause)) => Ok(Step::Refused(shape_text(alloc, number, cause)?)),
+        Err(ShapeError::Shape(cause)) => Ok(Outcome::Refused(shape_text(alloc, number, cause)?)),
     }
 }
 
@@ -153,8 +153,8 @@ fn judged(
     let mut space = space;
     for (k, command) in recipe.split(';').enumerate() {
         match step(alloc, k as u64 + 1, arrays, &space, command, repeats)? {
-            Step::Refused(answer) => return Ok(answer),
-            Step::Next(new) => space = new,
+            Outcome::Refused(answer) => return Ok(answer),
+            Outcome::Next(new) => space = new,
         }
     }
     legal_text(alloc, &space)
