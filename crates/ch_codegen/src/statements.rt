@@ -9,7 +9,6 @@ ghost use Rattle.ch_codegen.specs.Parts.{Lists};
 ghost use Rattle.ch_codegen.specs.Made.{leaf, guard};
 
 use crate::everywhere::is_everywhere;
-use crate::systems::known_system;
 use ch_affine::{Boxed, List, Range};
 use ch_code::Code;
 use ch_space::Piece;
@@ -48,7 +47,7 @@ pub(crate) fn end_code(alloc: Global, piece: &Piece, ranges: &[Range]) -> Result
     ensures lists { IfOk result (λ code. Lists ranges.now (piece.now ∷ []) (trace code)) }
     ensures formed { IfOk result (λ code. IsFormed ranges.now (piece.now ∷ []) code) }
 {
-    known_system(&piece.system);
+    piece.system.known();
     if is_everywhere(piece, ranges) {
         statement(alloc, piece)
     } else {

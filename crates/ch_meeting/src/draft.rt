@@ -3,7 +3,6 @@
 ghost use Rattle.std.specs.Prelude.{◌≡◌, ◌≤◌, ◌≤ℤ◌, ◌+◌, ◌^◌, ◌+ℤ◌, ◌-ℤ◌, ◌*ℤ◌, ◌++◌, [], neg_ℤ, pos, ℤ, List, length, map, drop, IfOk, OnOk};
 ghost use Rattle.std.specs.List.{All};
 ghost use Rattle.ch_affine.specs.Affine.{IsAtMost, dot, form, value};
-ghost use Rattle.ch_affine.specs.Rows.{IsSystem};
 ghost use Rattle.ch_meeting.specs.Drafts.{IsDraft, IsLeastFit, Narrows};
 ghost use Rattle.ch_poly.specs.Boxes.{at};
 ghost use Rattle.ch_space.specs.Built.{padded};
@@ -17,13 +16,6 @@ use std::alloc::{AllocError, Global};
 pub(crate) struct Draft {
     pub(crate) boxes: List<Range>,
     pub(crate) rows: List<Aff>,
-}
-
-/// Tells a caller what each system keeps by its type. It does nothing.
-pub(crate) fn known(system: &System)
-    ensures { IsSystem system.now }
-{
-    let _ = system.boxes.len();
 }
 
 /// Fills the coefficients up with zeros.

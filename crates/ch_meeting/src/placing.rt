@@ -7,7 +7,7 @@ ghost use Rattle.ch_meeting.specs.Placed.{HoldsAt, PairAt, PairTiedAt, TiedAt, p
 ghost use Rattle.ch_poly.specs.Boxes.{at};
 ghost use Rattle.ch_space.specs.Keeps.{IsWhole};
 
-use crate::draft::{Draft, add, add_one, known, no_coefs, row};
+use crate::draft::{Draft, add, add_one, no_coefs, row};
 use ch_affine::{Aff, List, Range};
 use ch_space::Piece;
 use std::alloc::{AllocError, Global};
@@ -50,7 +50,7 @@ fn place(
     requires inside { hidden + piece.now.hidden ≤ length draft.old.boxes }
     ensures { OnOk result (Narrows draft.old draft.new (HoldsAt piece.now levels hidden)) }
 {
-    known(&piece.system);
+    piece.system.known();
     let rows = piece.system.rows.as_slice();
     let count = piece.levels as usize;
     for form in rows {

@@ -10,7 +10,7 @@ ghost use Rattle.ch_space.specs.Keeps.{IsWhole};
 ghost use Rattle.std.specs.List.{All};
 
 use crate::cells::{Site, same_cell};
-use crate::draft::{Draft, known};
+use crate::draft::Draft;
 use crate::layout::{push_cells, push_pair, push_wides};
 use crate::orders::{Order, orders, put_in_order};
 use crate::placing::{place_pair, tie, tie_pair};
@@ -137,8 +137,8 @@ fn common_draft(alloc: Global, first: &Piece, second: &Piece) -> Result<Draft, A
     ensures { IfOk result (λ draft. Asks draft (common_boxes first.now second.now)
         (AreCommon first.now second.now)) }
 {
-    known(&first.system);
-    known(&second.system);
+    first.system.known();
+    second.system.known();
     let boxes = common_ranges(alloc, first, second)?;
     let mut draft = Draft::new(alloc, boxes);
     ask_common(alloc, &mut draft, first, second)?;
@@ -244,8 +244,8 @@ fn meeting_draft(
         (meeting_boxes first.now second.now access.now other.now)
         (AreMeetingBy order first.now second.now access.now other.now)) }
 {
-    known(&first.system);
-    known(&second.system);
+    first.system.known();
+    second.system.known();
     let boxes = meeting_ranges(alloc, first, second, access, other)?;
     let mut draft = Draft::new(alloc, boxes);
     let iters = (first.levels + second.levels + first.hidden + second.hidden) as usize;
@@ -408,10 +408,10 @@ fn reversal_draft(
         (reversal_boxes first.now second.now new_first.now new_second.now access.now other.now)
         (AreReversal order turn first.now second.now new_first.now new_second.now access.now other.now)) }
 {
-    known(&first.system);
-    known(&second.system);
-    known(&new_first.system);
-    known(&new_second.system);
+    first.system.known();
+    second.system.known();
+    new_first.system.known();
+    new_second.system.known();
     let boxes = reversal_ranges(alloc, first, second, new_first, new_second, access, other)?;
     let mut draft = Draft::new(alloc, boxes);
     ask_reversal(

@@ -4,7 +4,6 @@
 
 mod bounds;
 pub mod causes;
-pub mod groups;
 mod reindex;
 #[cfg(test)]
 mod reindex_tests;

@@ -6,18 +6,9 @@ ghost use Rattle.ch_space.specs.Pieces.{listed};
 ghost use Rattle.ch_timed.specs.Closed.{closed_up};
 
 use ch_affine::List;
+use ch_space::copies::copied_lists;
 use ch_space::{Piece, Space, close_up};
 use std::alloc::{AllocError, Global};
-
-fn copied_lists(alloc: Global, lists: &[List<u32>]) -> Result<List<List<u32>>, AllocError>
-    ensures { IfOk result (λ copy. copy ≡ lists.now) }
-{
-    let mut copy = List::with_capacity(alloc, lists.len())?;
-    for list in lists {
-        copy.push(List::from_slice(alloc, list.as_slice())?)?;
-    }
-    Ok(copy)
-}
 
 /// The space of these pieces one command after another space, its places closed up.
 pub fn closed_space(

@@ -17,8 +17,8 @@ use crate::ordering::first_moving;
 use crate::pieces::{raised_piece, turned_piece};
 use ch_affine::List;
 use ch_moved::causes::contains;
-use ch_moved::groups::{copied_piece, share};
-use ch_space::Piece;
+use ch_space::copies::copied_piece;
+use ch_space::{Piece, share};
 use std::alloc::{AllocError, Global};
 
 /// Whether these places are in the group of our piece at the first level that moves, if any does.

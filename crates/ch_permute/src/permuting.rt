@@ -14,9 +14,8 @@ use crate::ordering::{first_moving, is_permutation, last_moving};
 use ch_affine::List;
 use ch_moved::causes::{depth, index, is_piece};
 use ch_moved::closed_space;
-use ch_moved::groups::share;
 use ch_nest::Shape;
-use ch_space::{ShapeError, Space, pieces, places};
+use ch_space::{ShapeError, Space, pieces, places, share};
 use std::alloc::{AllocError, Global};
 
 /// Whether the other piece is in the group of the piece at that level.

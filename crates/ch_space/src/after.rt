@@ -13,7 +13,7 @@ ghost use Rattle.ch_space.specs.Keeps.{AreApart, IsWhole};
 ghost use Rattle.ch_space.specs.Pieces.{element_at, elements, instances, listed};
 
 use crate::copies::{copied_body, copied_forms};
-use crate::extremes::{identity_at, known};
+use crate::extremes::identity_at;
 use crate::piece::Piece;
 use crate::space::Space;
 use ch_affine::{List, Range, System};
@@ -104,7 +104,7 @@ fn element_at(alloc: Global, piece: &Piece, instance: &[i64]) -> Result<Element,
 }
 
 /// The vector of these places and loop values.
-fn woven(alloc: Global, places: &[u32], values: &[i64]) -> Result<List<i64>, AllocError>
+pub fn woven(alloc: Global, places: &[u32], values: &[i64]) -> Result<List<i64>, AllocError>
     requires { length places.now ≡ length values.now + 1 }
     ensures { IfOk result (λ vector. vector ≡ woven (map pos places.now) values.now) }
 {
@@ -179,7 +179,7 @@ fn least_beyond(
     ensures { IfOk result (λ least.
         IsLeast (BeginsWith fixed.now (IsAbove value)) (instances piece.now) least) }
 {
-    known(&piece.system);
+    piece.system.known();
     if value >= RANGE_LIMIT {
         return Ok(None);
     }

@@ -96,7 +96,7 @@ pub fn copied_body(alloc: Global, body: &Body) -> Result<Body, AllocError>
 }
 
 /// A piece of its own with the same elements.
-fn copied_piece(alloc: Global, piece: &Piece) -> Result<Piece, AllocError>
+pub fn copied_piece(alloc: Global, piece: &Piece) -> Result<Piece, AllocError>
     ensures { IfOk result (λ copy. copy ≡ piece.now) }
 {
     Ok(Piece {
@@ -120,7 +120,8 @@ fn copied_pieces(alloc: Global, pieces: &[Piece]) -> Result<List<Piece>, AllocEr
     Ok(copy)
 }
 
-fn copied_lists(alloc: Global, lists: &[List<u32>]) -> Result<List<List<u32>>, AllocError>
+/// Lists of their own with the same numbers.
+pub fn copied_lists(alloc: Global, lists: &[List<u32>]) -> Result<List<List<u32>>, AllocError>
     ensures { IfOk result (λ copy. copy ≡ lists.now) }
 {
     let mut copy = List::with_capacity(alloc, lists.len())?;

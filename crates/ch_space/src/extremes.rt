@@ -3,7 +3,7 @@
 ghost use Rattle.std.specs.Prelude.{◌≡◌, ◌≢◌, ◌<◌, ◌^◌, [], Some, length, map, IfOk};
 ghost use Rattle.std.specs.List.{All};
 ghost use Rattle.ch_affine.specs.Affine.{IsAtMost};
-ghost use Rattle.ch_affine.specs.Rows.{IsBox, IsSystem};
+ghost use Rattle.ch_affine.specs.Rows.{IsBox};
 ghost use Rattle.ch_poly.specs.Points.{first};
 ghost use Rattle.ch_timed.specs.Members.{In};
 ghost use Rattle.ch_timed.specs.Timed.{pieces};
@@ -131,7 +131,7 @@ pub(crate) fn identity_at(
     requires near { All (λ e. All (IsAtMost (2 ^ 54)) e.identity.iters) (elements piece.now) }
     ensures { IfOk result (λ identity. identity ≡ (element_at piece.now instance.now).identity) }
 {
-    known(&piece.system);
+    piece.system.known();
     let mut iters = List::with_capacity(alloc, piece.origin.len())?;
     for form in piece.origin.as_slice() {
         iters.push(form.value(instance) as i64)?;
@@ -140,11 +140,4 @@ pub(crate) fn identity_at(
         label: piece.label,
         iters,
     })
-}
-
-/// Tells a caller what each system keeps by its type. It does nothing.
-pub(crate) fn known(system: &System)
-    ensures { IsSystem system.now }
-{
-    let _ = system.boxes.len();
 }

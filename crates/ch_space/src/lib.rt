@@ -25,11 +25,12 @@ mod rows;
 mod space;
 mod turns;
 
+pub use after::woven;
 pub use closing::close_up;
 pub use error::{ShapeError, SpaceError};
 pub use extremes::ends;
 pub use judge::{judged, judgement_is_sound};
 pub use nest_space::{of_nest, space_of};
 pub use piece::Piece;
-pub use reading::{count, group, label, piece_count, pieces, places};
+pub use reading::{count, group, label, piece_count, pieces, places, share};
 pub use space::Space;

@@ -94,7 +94,7 @@ fn numbers_sharing(
 }
 
 /// Whether both places have that level, and begin alike up to it.
-fn share(level: usize, ours: &[u32], theirs: &[u32]) -> bool
+pub fn share(level: usize, ours: &[u32], theirs: &[u32]) -> bool
     ensures { result ≡ shares level (map pos ours.now) (map pos theirs.now) }
 {
     if ours.len() <= level || theirs.len() <= level {

@@ -6,7 +6,7 @@ use Rattle.ch_codegen.proofs.statements.end_code.Goals as goal
 pub returns-then-is_everywhere-clause-lists : goal.returns-then-is_everywhere-clause-lists
 returns-then-is_everywhere-clause-lists c =
     IfOk-weaker c.statement.result _ _
-    (λ code is. statement_listed c.args.ranges.now c.args.piece.now code c.requires.whole c.known_system.ensures c.requires.ends
+    (λ code is. statement_listed c.args.ranges.now c.args.piece.now code c.requires.whole c.known.ensures c.requires.ends
     (c.is_everywhere.ensures.0 c.if-is_everywhere.true).rows (c.is_everywhere.ensures.0 c.if-is_everywhere.true).boxes is)
     c.statement.ensures
 
@@ -16,11 +16,11 @@ returns-then-is_everywhere-clause-formed c =
 
 pub returns-else-is_everywhere-clause-lists : goal.returns-else-is_everywhere-clause-lists
 returns-else-is_everywhere-clause-lists c =
-    IfOk-weaker c.guarded_statement.result _ _ (λ code is. guard_listed c.args.ranges.now c.args.piece.now code c.requires.whole c.known_system.ensures c.requires.ends is)
+    IfOk-weaker c.guarded_statement.result _ _ (λ code is. guard_listed c.args.ranges.now c.args.piece.now code c.requires.whole c.known.ensures c.requires.ends is)
     c.guarded_statement.ensures
 
 pub returns-else-is_everywhere-clause-formed : goal.returns-else-is_everywhere-clause-formed
 returns-else-is_everywhere-clause-formed c =
     IfOk-weaker c.guarded_statement.result _ _
-    (λ code is. guard_is_formed c.args.ranges.now c.args.piece.now code c.requires.whole c.known_system.ensures c.requires.ends is)
+    (λ code is. guard_is_formed c.args.ranges.now c.args.piece.now code c.requires.whole c.known.ensures c.requires.ends is)
     c.guarded_statement.ensures
