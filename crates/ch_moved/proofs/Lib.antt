@@ -13,3 +13,9 @@ pub mod Parting
 pub mod Causing
 pub mod UnitForms
 pub mod Elements
+pub mod Values
+pub mod Limits
+pub mod Leaving
+pub mod Allowed
+pub mod Named
+pub mod Beside

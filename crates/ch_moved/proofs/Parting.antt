@@ -1,5 +1,5 @@
 -- Two lists of places that are apart have a first place at which they differ; what keeps it keeps their order, and keeps them apart.
-use Rattle.std.proofs.Common.{◌≡◌, refl, sym, ap, ap₂, ◌∙◌, subst, ℕ, ◌+◌, ℤ, ◌<ℤ◌, Bool, true, false, not, ◌&&◌, ◌||◌, List, [], ◌∷◌, ◌++◌, length, take, inl, inr}
+use Rattle.std.proofs.Common.{◌≡◌, refl, sym, ap, ap₂, ◌∙◌, subst, ℤ, ◌<ℤ◌, true, not, ◌&&◌, ◌||◌, List, [], ◌∷◌, ◌++◌, length, take}
 use Rattle.std.specs.Ordering.{int_cmp, is_eq, ordering_reverse, ordering_then, MatchOrdering}
 use Rattle.std.specs.declared.cmp.Ordering.{Ordering}
 use Rattle.std.specs.declared.cmp.Ordering.TheVariants.{Less, Equal, Greater}
@@ -13,7 +13,7 @@ use Rattle.ch_space.proofs.PieceElements.{cons_comes, less_comes}
 use Rattle.ch_moved.proofs.Replaced.{places_apart, same_apart, turned}
 use Rattle.ch_timed.specs.Members.{In}
 use Rattle.ch_timed.specs.Timed.{is_well_formed}
-use Rattle.ch_timed.specs.Vectors.{begins_with, same_numbers}
+use Rattle.ch_timed.specs.Vectors.{same_numbers}
 use Rattle.ch_timed.proofs.Blocks.{int_less}
 use Rattle.ch_timed.proofs.Prefixes.{apart}
 

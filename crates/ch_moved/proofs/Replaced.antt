@@ -1,6 +1,6 @@
 -- Pieces each of which has the elements of one other piece, moved, at places that follow from the old ones.
-use Rattle.std.proofs.Common.{◌≡◌, ◌≢◌, refl, sym, ap, ap₂, ◌∙◌, subst, ℕ, suc, ◌+◌, ◌<◌, ◌≤◌, ℤ, pos, true, not, ◌&&◌, List, [], ◌∷◌, map, length, inl, inr, arith}
-use Rattle.std.specs.List.{All, flat_map}
+use Rattle.std.proofs.Common.{◌≡◌, ◌≢◌, refl, sym, ap, ap₂, ◌∙◌, subst, ℕ, suc, ◌≤◌, ℤ, true, not, ◌&&◌, List, [], ◌∷◌, map, length, inl, inr}
+use Rattle.std.specs.List.{flat_map}
 use Rattle.std.specs.Ordering.{int_cmp}
 use Rattle.std.specs.declared.cmp.Ordering.TheVariants.{Less}
 use Rattle.std.specs.Cmp.Lexicographic.{slice_cmp}
@@ -17,8 +17,7 @@ use Rattle.ch_space.proofs.PieceElements.{element_places, elements_ascend, one_e
 use Rattle.ch_space.proofs.PieceNumbers.{Differ, all_in, instance_in, listed_in, lists_same, ordered_length, same_lists, some_in}
 use Rattle.ch_moved.proofs.Taken.{ComesFrom, PlacesApart, Taken, listed_taken, steps_among, steps_from, taken_space}
 use Rattle.ch_timed.specs.declared.element.Element.{Element}
-use Rattle.ch_timed.specs.Members.{Each, In}
-use Rattle.ch_timed.specs.Ordered.{ordered}
+use Rattle.ch_timed.specs.Members.{In}
 use Rattle.ch_timed.specs.Timed.{identities_differ, in_order, is_apart, is_well_formed, pieces_apart, step}
 use Rattle.ch_timed.specs.Vectors.{begins_with, places, same_numbers}
 use Rattle.ch_timed.proofs.Prefixes.{apart}

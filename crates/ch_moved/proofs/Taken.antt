@@ -1,7 +1,6 @@
 -- Pieces that have the elements of other pieces, moved: they make a space again, which stands for the moved list.
-use Rattle.std.proofs.Common.{◌≡◌, refl, sym, ap, ◌∙◌, subst, ℕ, suc, ◌+◌, ◌*◌, ◌<◌, ◌≤◌, ◌^◌, ℤ, true, List, [], ◌∷◌, map, length, inl, inr, arith}
-use Rattle.std.specs.Bool.{IsTrue}
-use Rattle.std.specs.List.{All, flat_map, sum}
+use Rattle.std.proofs.Common.{◌≡◌, sym, ap, ◌∙◌, subst, ℕ, suc, ◌*◌, ◌≤◌, ◌^◌, ℤ, true, List, [], ◌∷◌, map, length, arith}
+use Rattle.std.specs.List.{All, flat_map}
 use Rattle.std.specs.declared.cmp.Ordering.{Ordering}
 use Rattle.std.specs.declared.cmp.Ordering.TheVariants.{Less, Equal, Greater}
 use Rattle.std.specs.Ordering.{int_cmp}
@@ -13,22 +12,22 @@ use Rattle.ch_nest.specs.declared.nest.Access.{Access}
 use Rattle.ch_order.specs.Legal.{AreAmong}
 use Rattle.ch_order.proofs.Kept.{differ_kept, no_others, steps_kept}
 use Rattle.ch_space.specs.declared.piece.Piece.{Piece}
-use Rattle.ch_space.specs.Keeps.{AreApart, IsBody, IsLimited, IsMoveBelow, IsReached, IsSpace, IsWrapped, accesses, most_commands, most_instances, most_pieces, most_weight, places_of}
+use Rattle.ch_space.specs.Keeps.{AreApart, IsBody, IsLimited, IsMoveBelow, IsReached, IsSpace, IsWrapped, accesses, most_commands, most_pieces, most_weight, places_of}
 use Rattle.ch_space.specs.Pieces.{elements, instances, listed}
 use Rattle.ch_space.proofs.EndsOf.{at_all}
 use Rattle.ch_space.proofs.Membership.{flat_in, in_flat}
-use Rattle.ch_space.proofs.PieceElements.{StandsFor, each_from_in, in_stands, long, one_each, whole_in}
+use Rattle.ch_space.proofs.PieceElements.{StandsFor, each_from_in, long, one_each, whole_in}
 use Rattle.ch_space.proofs.PieceNumbers.{all_in, in_listed, list_length}
 use Rattle.ch_timed.specs.declared.element.Element.{Element}
 use Rattle.ch_timed.specs.declared.element.Label.{Label}
 use Rattle.ch_timed.specs.declared.element.Label.TheVariants.{Stmt, Move}
-use Rattle.ch_timed.specs.Members.{Each, In}
+use Rattle.ch_timed.specs.Members.{In}
 use Rattle.ch_timed.specs.Ordered.{ordered, put, put_by}
-use Rattle.ch_timed.specs.Timed.{Step, identities_differ, in_order, is_well_formed, pieces_apart, step, vectors_ascend, have_vectors}
+use Rattle.ch_timed.specs.Timed.{Step, in_order, is_well_formed, step}
 use Rattle.ch_timed.specs.Vectors.{places}
 use Rattle.ch_timed.specs.Closed.{closed_up}
 use Rattle.ch_timed.proofs.ClosedUp.{same_steps}
-use Rattle.ch_timed.proofs.Orders.{IsAscending, from_order, in_map, map_in, ordered_ascends, retimed, to_order}
+use Rattle.ch_timed.proofs.Orders.{from_order, ordered_ascends, retimed, to_order}
 use Rattle.ch_timed.proofs.Prefixes.{apart}
 use Rattle.ch_timed.proofs.Sorted.{ascends_adjacent}
 use Rattle.ch_timed.proofs.WellFormed.{apart_by}

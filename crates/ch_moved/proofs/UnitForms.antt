@@ -1,9 +1,9 @@
 -- Forms of one variable are small, and give its value.
-use Rattle.std.proofs.Common.{◌≡◌, refl, sym, ap, ap₂, ◌∙◌, subst, ℕ, zero, suc, ◌+◌, ◌<◌, ◌≤◌, ◌^◌, ℤ, pos, ◌+ℤ◌, List, [], ◌∷◌, ◌++◌, length, map, take, drop, arith, append_assoc, length-append}
+use Rattle.std.proofs.Common.{◌≡◌, refl, sym, ap₂, ◌∙◌, subst, ℕ, zero, suc, ◌+◌, ◌<◌, ◌^◌, ℤ, pos, List, [], ◌∷◌, ◌++◌, length, arith, append_assoc, length-append}
 use Rattle.std.specs.List.{All}
 use Rattle.std.proofs.lemmas.Int.{ints}
 use Rattle.std.proofs.lemmas.List.Elements.{All-append, All-cons, All-nil}
-use Rattle.ch_affine.specs.Affine.{IsAtMost, IsSmall, dot, value}
+use Rattle.ch_affine.specs.Affine.{IsAtMost, IsSmall, value}
 use Rattle.ch_space.specs.Built.{unit, units, zeros}
 use Rattle.ch_space.proofs.Rowed.{dot_front, dot_zeros, one_times}
 use Rattle.ch_moved.specs.Substituted.{image}

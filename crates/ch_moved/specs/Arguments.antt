@@ -1,5 +1,5 @@
 -- What the arguments of a command name in a timed list: pieces by their numbers from 0, levels from 1.
-use Rattle.std.specs.Prelude.{ℕ, ◌-◌, ℤ, pos, negsuc, Bool, false, ◌&&◌, nat_lt, int_le, List, length, slice_index_or}
+use Rattle.std.specs.Prelude.{ℕ, ◌-◌, ℤ, pos, negsuc, Bool, false, ◌&&◌, nat_le, nat_lt, int_le, List, length, slice_index_or, take}
 use Rattle.std.specs.List.{list_any}
 use Rattle.ch_timed.specs.declared.element.Element.{Element}
 use Rattle.ch_timed.specs.Groups.{piece}
@@ -31,3 +31,7 @@ is_named list numbers ps = list_any (λ s. is_piece list s && same_numbers (piec
 -- the loop value of a level, which is counted from 1
 abbrev pub at_level : ℕ → List ℤ → ℤ
 at_level level xs = slice_index_or xs (level - 1) (pos 0)
+
+-- whether the places are those of a piece beside the loop of that level or in it: they have its place, behind the same places
+abbrev pub beside : ℕ → List ℤ → List ℤ → Bool
+beside level ours ps = nat_le level (length ps) && same_numbers (take (level - 1) ours) (take (level - 1) ps)

@@ -1,12 +1,15 @@
 //! The causes that several commands share, and the levels of pieces that numbers name.
 
-ghost use Rattle.std.specs.Prelude.{◌≡◌, ◌+◌, ◌*◌, ◌≤◌, ◌^◌, ◌<ℤ◌, None, true, pos, IsTrue};
+ghost use Rattle.std.specs.Prelude.{◌≡◌, ◌+◌, ◌*◌, ◌<◌, ◌≤◌, ◌^◌, ◌<ℤ◌, not, ◌&&◌, None, true, pos, length, IsTrue};
 ghost use Rattle.std.specs.List.{list_any};
 ghost use Rattle.std.specs.Ordering.{int_eq};
 ghost use Rattle.ch_moved.specs.Arguments.{depth, has_level, is_piece, natural};
-ghost use Rattle.ch_moved.specs.Causes.{cause, has_twice, named_twice, no_level, no_piece, too_heavy};
+ghost use Rattle.ch_moved.specs.Causes.{cause, has_twice, named_twice, no_level, no_piece, too_heavy, unshared};
 ghost use Rattle.ch_space.specs.Keeps.{most_weight};
+ghost use Rattle.ch_timed.specs.Groups.{in_group, piece};
+ghost use Rattle.ch_timed.specs.Timed.{pieces};
 
+use crate::groups::in_group;
 use ch_nest::Shape;
 use ch_space::{Space, pieces};
 
@@ -106,6 +109,32 @@ pub fn named_twice(numbers: &[i64]) -> Option<Shape>
 {
     if has_twice(numbers) {
         return Some(Shape { code: 3, number: 0 });
+    }
+    None
+}
+
+/// Whether the other piece is in the group at level `first`, but doesn't share level `last`.
+fn is_left(space: &Space, number: u32, first: usize, last: usize, other: u32) -> bool
+    requires number { number < length (pieces space.now.list) }
+    requires other { other < length (pieces space.now.list) }
+    ensures { result ≡ (in_group space.now.list number first (piece space.now.list other)
+        && not (in_group space.now.list number last (piece space.now.list other))) }
+{
+    in_group(space, number, first, other) && !in_group(space, number, last, other)
+}
+
+/// The least piece of the group at level `first` that doesn't share level `last`.
+pub fn unshared(space: &Space, number: u32, first: usize, last: usize) -> Option<Shape>
+    requires { number < length (pieces space.now.list) }
+    ensures { result ≡ unshared space.now.list number first last }
+{
+    for k in 0..pieces(space) {
+        if is_left(space, number, first, last, k) {
+            return Some(Shape {
+                code: 5,
+                number: i128::from(k),
+            });
+        }
     }
     None
 }

@@ -4,6 +4,7 @@
 
 mod bounds;
 pub mod causes;
+pub mod groups;
 mod reindex;
 #[cfg(test)]
 mod reindex_tests;

@@ -1,47 +1,26 @@
 -- What holds where no cause forbids a command.
-use Rattle.std.proofs.Common.{◌≡◌, refl, ℕ, ℤ, unsigned_abs, Bool, true, false, cond, Option, Some, None, List, [], ◌∷◌, leb}
+use Rattle.std.proofs.Common.{◌≡◌, ℕ, ℤ, unsigned_abs, true, None, List, [], ◌∷◌, leb}
 use Rattle.std.specs.List.{All}
-use Rattle.std.proofs.lemmas.Bool.{leb-true}
-use Rattle.std.proofs.lemmas.List.Elements.{All-cons, All-nil}
 use Rattle.ch_affine.specs.Affine.{IsAtMost}
 use Rattle.ch_moved.specs.Arguments.{is_piece}
-use Rattle.ch_moved.specs.Causes.{first_failing, first_of, named_twice, no_level, no_piece}
-use Rattle.ch_nest.specs.declared.cause.Shape.{Shape}
-use Rattle.ch_permute.specs.Permuted.{is_permutation, moving, no_permutation, permute_cause, too_long, unshared}
+use Rattle.ch_moved.specs.Causes.{first_failing, named_twice, no_level, no_piece}
+use Rattle.ch_permute.specs.Permuted.{is_permutation, moving, no_permutation, permute_cause, too_long, unshared_moving}
 use Rattle.ch_permute.specs.Raised.{skew_cause, wrong_count}
 use Rattle.ch_timed.specs.declared.element.Element.{Element}
-
-pub none_first : (o : Option Shape) (more : List (Option Shape)) → first_of (o ∷ more) ≡ None → (o ≡ None) × (first_of more ≡ None)
-none_first None more e = (refl, e)
-none_first (Some c) more e = cc
-
-test_of : (b : Bool) (c : Shape) → cond b None (Some c) ≡ None → b ≡ true
-test_of true c e = refl
-test_of false c e = cc
-
-passes_first : (b : Bool) (c : Shape) (rest : Option Shape) → cond b rest (Some c) ≡ None → (b ≡ true) × (rest ≡ None)
-passes_first true c rest e = (refl, e)
-passes_first false c rest e = cc
+use Rattle.ch_moved.proofs.Allowed.{all_small, none_first, test_of}
 
 pub record MayPermute (list : List Element) (s : ℤ) (order : List ℤ) : Type 0 where
   pub piece : is_piece list s ≡ true
   pub permutation : is_permutation order ≡ true
-  pub shared : unshared list s (moving 1 order) ≡ None
+  pub shared : unshared_moving list s (moving 1 order) ≡ None
 
 pub may_permute : (list : List Element) (s : ℤ) (order : List ℤ) → permute_cause list s order ≡ None → MayPermute list s order
 may_permute list s order e =
     let a = none_first (no_piece list (s ∷ [])) _ e in
     let b = none_first (too_long list s order) _ a.1 in
     let c = none_first (no_permutation order) _ b.1 in
-    let d = none_first (unshared list s (moving 1 order)) [] c.1 in
+    let d = none_first (unshared_moving list s (moving 1 order)) [] c.1 in
     record { piece = test_of (is_piece list s) _ a.0; permutation = test_of (is_permutation order) _ c.0; shared = d.0 }
-
--- where no amount is too large, all are small
-pub all_small : (most : ℕ) (amounts : List ℤ) → first_failing 4 (λ a. leb (unsigned_abs a) most) amounts ≡ None → All (IsAtMost most) amounts
-all_small most [] e = All-nil (IsAtMost most)
-all_small most (a ∷ as') e =
-    let r = passes_first (leb (unsigned_abs a) most) _ (first_failing 4 (λ z. leb (unsigned_abs z) most) as') e in
-    All-cons (IsAtMost most) a as' (leb-true (unsigned_abs a) most r.0) (all_small most as' r.1)
 
 pub amounts_small : (list : List Element) (weight : ℕ) (numbers : List ℤ) (level : ℤ) (amounts : List ℤ) → skew_cause list weight numbers level amounts ≡ None → All (IsAtMost 64) amounts
 amounts_small list weight numbers level amounts e =

@@ -20,11 +20,12 @@ use Rattle.ch_permute.specs.Raised.{growth}
 use Rattle.ch_permute.specs.Turned.{Turns, origin_range, source, target, turned, turned_boxes, turned_forms}
 use Rattle.ch_permute.proofs.Changing.{Changes, IsOrdered, same_changes}
 use Rattle.ch_permute.proofs.Columns.{column_turned, constants_turned, dot_column_minus, dot_constants_minus, form_at, forms_count, length_unit, same_or_not}
-use Rattle.ch_permute.proofs.Limits.{at_most_at, bounded_product, far_more, farther, greater_bounded, greater_ordered, in_sum, narrow_by, within_greater}
+use Rattle.ch_moved.proofs.Limits.{at_most_at, bounded_product, far_more, farther, in_sum, narrow_by}
+use Rattle.ch_permute.proofs.Growth.{greater_bounded, greater_ordered, within_greater}
 use Rattle.ch_permute.proofs.Raising.{lies_set, plus_back, plus_there}
 use Rattle.ch_permute.proofs.Steps.{minus_at, minus_count, minus_other}
 use Rattle.ch_permute.proofs.Turning.{image_turned, length_turned, lies_turned, picked_turned, turned_back}
-use Rattle.ch_permute.proofs.Values.{dot_nothing, dot_pick, lies_at}
+use Rattle.ch_moved.proofs.Values.{dot_nothing, dot_pick, lies_at}
 use Rattle.ch_space.specs.Built.{unit}
 use Rattle.ch_space.specs.Keeps.{IsBounded, IsNarrow, IsWhole, farthest}
 use Rattle.ch_space.specs.declared.piece.Piece.{Piece}

@@ -14,8 +14,8 @@ use Rattle.ch_moved.specs.Reindexed.{IsReindexed}
 use Rattle.ch_moved.specs.Substituted.{image, substituted}
 use Rattle.ch_moved.proofs.Substitutes.{value_spread}
 use Rattle.ch_permute.specs.Changed.{FitPiece, HasRoom, IsChanged}
-use Rattle.ch_permute.proofs.Limits.{far_most, length_substituted, narrow_small}
-use Rattle.ch_permute.proofs.Values.{lies_length}
+use Rattle.ch_moved.proofs.Limits.{far_most, length_substituted, narrow_small}
+use Rattle.ch_moved.proofs.Values.{lies_length}
 use Rattle.ch_space.specs.Keeps.{IsBounded, IsLimited, IsNarrow, IsWhole, farthest, places_of}
 use Rattle.ch_space.specs.Pieces.{element_at, instances}
 use Rattle.ch_space.specs.declared.piece.Piece.{Piece}

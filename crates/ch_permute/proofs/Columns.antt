@@ -10,7 +10,7 @@ use Rattle.ch_moved.specs.Spread.{column, constants}
 use Rattle.ch_permute.specs.Lowered.{less, minus_forms}
 use Rattle.ch_permute.specs.Turned.{Turns, turned_forms}
 use Rattle.ch_space.specs.Built.{unit, zeros}
-use Rattle.ch_permute.proofs.Values.{dot_nothing, dot_pick, dot_set, length_zeros, unit_other, unit_same, zero_at}
+use Rattle.ch_moved.proofs.Values.{dot_nothing, dot_pick, dot_set, length_zeros, unit_other, unit_same, zero_at}
 
 pub same_or_not : (j k : ℕ) → (j ≡ k) ⊎ (j ≢ k)
 same_or_not j k = elim (cases_lt j k) [

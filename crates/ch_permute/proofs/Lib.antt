@@ -1,14 +1,12 @@
 pub mod Turns
-pub mod Values
 pub mod Turning
 pub mod Columns
 pub mod Raising
 pub mod Steps
-pub mod Limits
+pub mod Growth
 pub mod Changing
 pub mod BothChanges
 pub mod Becoming
 pub mod Made
-pub mod Leaving
 pub mod Allowed
 pub mod Unmoved

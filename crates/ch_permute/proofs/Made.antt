@@ -1,5 +1,5 @@
 -- Pieces of which some changed make a space, which stands for the moved list.
-use Rattle.std.proofs.Common.{◌≡◌, refl, sym, ap, ap₂, ◌∙◌, subst, ℕ, suc, ◌+◌, ◌*◌, ◌<◌, ◌≤◌, ◌^◌, ℤ, pos, Bool, true, false, cond, List, [], ◌∷◌, map, length, get_or, arith, Result, Ok, Err, IfOk}
+use Rattle.std.proofs.Common.{◌≡◌, refl, sym, ap, ap₂, ◌∙◌, subst, ℕ, ◌+◌, ◌*◌, ◌<◌, ◌≤◌, ℤ, Bool, true, false, cond, List, [], ◌∷◌, arith, Result, Ok, Err, IfOk}
 use Rattle.std.specs.List.{All}
 use Rattle.std.specs.declared.alloc.AllocError.{AllocError}
 use Rattle.std.proofs.lemmas.Nat.{mul-le}
@@ -8,8 +8,8 @@ use Rattle.ch_moved.specs.Moved.{moved, revalued}
 use Rattle.ch_moved.proofs.Remade.{AllRemade, IsRemade, among_remade, remade_among, remade_list, remade_space}
 use Rattle.ch_moved.proofs.Taken.{among_closed, closed_among}
 use Rattle.ch_order.specs.Legal.{AreAmong}
-use Rattle.ch_permute.specs.Changed.{AllBecome, Becomes, HasRoom, IsChanged}
-use Rattle.ch_permute.proofs.Limits.{far_more}
+use Rattle.ch_permute.specs.Changed.{AllBecome, Becomes, HasRoom}
+use Rattle.ch_moved.proofs.Limits.{more_limits}
 use Rattle.ch_space.specs.declared.piece.Piece.{Piece}
 use Rattle.ch_space.specs.Keeps.{AreApart, IsLimited, IsSpace, IsWhole, most_commands, most_weight, places_of}
 use Rattle.ch_space.specs.Listed.{Listed}
@@ -17,7 +17,7 @@ use Rattle.ch_space.specs.Pieces.{element_at, instances, listed}
 use Rattle.ch_space.proofs.PieceElements.{element_places, element_values}
 use Rattle.ch_timed.specs.Closed.{at_vector, closed_up}
 use Rattle.ch_timed.specs.Members.{In}
-use Rattle.ch_timed.specs.Timed.{in_order, is_well_formed, step}
+use Rattle.ch_timed.specs.Timed.{is_well_formed, step}
 use Rattle.ch_timed.specs.Vectors.{places, values, woven}
 use Rattle.ch_timed.specs.declared.element.Element.{Element}
 
@@ -27,18 +27,6 @@ keeps_by false e v = refl
 
 pub keeps_steps : (inside : List ℤ → Bool) (new : List ℤ → List ℤ) (e : Element) → step (revalued inside new e) ≡ step e
 keeps_steps inside new e = keeps_by (inside (places e.vector)) e (woven (places e.vector) (new (values e.vector)))
-
-more_limits : (w c by : ℕ) (p : Piece) → 1 ≤ w → 1 ≤ by → IsLimited w c p → IsLimited (w * by) (c + 1) p
-more_limits w c by p s t l =
-    let far = far_more w c by s t in
-    let one : w * 1 ≤ w * by = mul-le w 1 w by (omega arith) t in
-    record {
-      levels = l.levels;
-      iterators = l.iterators;
-      variables = let v = l.variables in omega arith;
-      boxes = λ k d h. let b = l.boxes k d h in record { low = let m = b.low in omega arith; high = let m = b.high in omega arith };
-      origin = λ k d h. let b = l.origin k d h in record { coefs = λ j e i. let m = b.coefs j e i in omega arith; constant = let m = b.constant in omega arith };
-    }
 
 module _ (inside : List ℤ → Bool) (new : List ℤ → List ℤ) (by w c : ℕ) (some : 1 ≤ w) (grows : 1 ≤ by) where
   moved_at : (p : Piece) (xs : List ℤ) → IsWhole p → In xs (instances p) → inside (places_of p) ≡ true → revalued inside new (element_at p xs) ≡ at_vector (element_at p xs) (woven (places_of p) (new xs))

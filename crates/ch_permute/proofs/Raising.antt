@@ -13,7 +13,7 @@ use Rattle.ch_permute.specs.Lowered.{less, minus_forms, plus}
 use Rattle.ch_permute.specs.Turned.{turned, turned_forms}
 use Rattle.ch_space.specs.Built.{zeros}
 use Rattle.ch_permute.proofs.Turning.{at_turned, image_turned, length_turned}
-use Rattle.ch_permute.proofs.Values.{IsWithin, dot_set_past, dot_unit, le_to}
+use Rattle.ch_moved.proofs.Values.{IsWithin, dot_set_past, dot_unit, le_to}
 
 pub neg_times : (c y : ℤ) → neg_ℤ c *ℤ y ≡ neg_ℤ (c *ℤ y)
 neg_times c y =

@@ -12,7 +12,7 @@ use Rattle.ch_moved.specs.Substituted.{image}
 use Rattle.ch_permute.specs.Permuted.{picked}
 use Rattle.ch_permute.specs.Turned.{origin_range, source, turned, turned_boxes, turned_forms}
 use Rattle.ch_space.specs.Built.{unit}
-use Rattle.ch_permute.proofs.Values.{IsWithin, dot_unit, lies_at, lies_by, lies_length}
+use Rattle.ch_moved.proofs.Values.{IsWithin, dot_unit, lies_at, lies_by, lies_length}
 
 pub length_turned : (s : ℕ → ℕ) (xs : List ℤ) → length (turned s xs) ≡ length xs
 length_turned s xs = length-map-range_with_len (λ k. get_or xs (s k) (pos 0)) 0 (length xs)

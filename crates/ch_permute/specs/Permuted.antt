@@ -4,10 +4,9 @@ use Rattle.std.specs.List.{list_all, list_any, range_with_len}
 use Rattle.std.specs.Ordering.{int_eq}
 use Rattle.ch_nest.specs.declared.cause.Shape.{Shape}
 use Rattle.ch_timed.specs.declared.element.Element.{Element}
-use Rattle.ch_timed.specs.Groups.{in_group, piece}
-use Rattle.ch_space.specs.Members.{group}
+use Rattle.ch_timed.specs.Groups.{in_group}
 use Rattle.ch_moved.specs.Arguments.{at_level, depth, natural}
-use Rattle.ch_moved.specs.Causes.{cause, first_failing, first_of, no_piece}
+use Rattle.ch_moved.specs.Causes.{cause, first_of, no_piece, unshared}
 use Rattle.ch_moved.specs.Moved.{moved, revalued}
 
 -- The levels, counted from `level`, at which the order has another one.
@@ -46,14 +45,12 @@ abbrev pub no_permutation : List ℤ → Option Shape
 no_permutation order = if is_permutation order then None else cause 3 (pos 0)
 
 -- C5: the least piece of the group of the first of these levels that doesn't share the last one
-abbrev pub unshared : List Element → ℤ → List ℕ → Option Shape
-unshared list s [] = None
-unshared list s (first ∷ more) =
-    first_failing 5 (λ k. in_group list (natural s) (last_from first more) (piece list (natural k)))
-    (map pos (group list (natural s) first))
+abbrev pub unshared_moving : List Element → ℤ → List ℕ → Option Shape
+unshared_moving list s [] = None
+unshared_moving list s (first ∷ more) = unshared list (natural s) first (last_from first more)
 
 abbrev pub permute_cause : List Element → ℤ → List ℤ → Option Shape
 permute_cause list s order =
     first_of
-    (no_piece list (s ∷ []) ∷ too_long list s order ∷ no_permutation order ∷ unshared list s (moving 1 order)
+    (no_piece list (s ∷ []) ∷ too_long list s order ∷ no_permutation order ∷ unshared_moving list s (moving 1 order)
     ∷ [])

@@ -7,7 +7,7 @@ ghost use Rattle.ch_moved.specs.Arguments.{is_named, natural};
 ghost use Rattle.ch_moved.specs.Causes.{no_level, no_piece};
 ghost use Rattle.ch_permute.specs.Changed.{in_first, AllBecome, Becomes, HasRoom};
 ghost use Rattle.ch_permute.specs.Lowered.{plus};
-ghost use Rattle.ch_permute.specs.Permuted.{in_moving, is_permutation, moving, picked, unshared};
+ghost use Rattle.ch_permute.specs.Permuted.{in_moving, is_permutation, moving, picked, unshared_moving};
 ghost use Rattle.ch_permute.specs.Raised.{growth};
 ghost use Rattle.ch_permute.specs.Turned.{source, target, Turns};
 ghost use Rattle.ch_space.specs.Keeps.{AreApart, IsWhole};
@@ -62,7 +62,7 @@ pub(crate) fn permuted_pieces(
     requires number { number < length pieces.now }
     requires room { All (HasRoom 1) pieces.now }
     requires permutation { IsTrue (is_permutation order.now) }
-    requires shared { unshared (listed pieces.now) (pos number) (moving 1 order.now) ≡ None }
+    requires shared { unshared_moving (listed pieces.now) (pos number) (moving 1 order.now) ≡ None }
     ensures { IfOk result (AllBecome (in_moving (listed pieces.now) (pos number) (moving 1 order.now))
         (picked order.now) 1 pieces.now) }
 {

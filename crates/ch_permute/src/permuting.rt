@@ -3,7 +3,7 @@
 ghost use Rattle.std.specs.Prelude.{◌≡◌, ◌+◌, ◌<◌, not, ◌&&◌, None, pos, length, map, IfOk, IsTrue};
 ghost use Rattle.ch_moved.specs.Causes.{first_failing, Answers};
 ghost use Rattle.ch_moved.specs.Arguments.{natural};
-ghost use Rattle.ch_permute.specs.Permuted.{is_permutation, moving, permute_cause, permuted, unshared};
+ghost use Rattle.ch_permute.specs.Permuted.{is_permutation, moving, permute_cause, permuted, unshared_moving};
 ghost use Rattle.ch_order.specs.Legal.{AreAmong};
 ghost use Rattle.ch_space.specs.Members.{group};
 ghost use Rattle.ch_timed.specs.Groups.{in_group, piece};
@@ -12,58 +12,21 @@ ghost use Rattle.ch_timed.specs.Timed.{pieces};
 use crate::change::permuted_pieces;
 use crate::ordering::{first_moving, is_permutation, last_moving};
 use ch_affine::List;
-use ch_moved::causes::{depth, index, is_piece};
+use ch_moved::causes::{depth, index, is_piece, unshared};
 use ch_moved::closed_space;
 use ch_nest::Shape;
-use ch_space::{ShapeError, Space, pieces, places, share};
+use ch_space::{ShapeError, Space};
 use std::alloc::{AllocError, Global};
 
-/// Whether the other piece is in the group of the piece at that level.
-fn in_group(space: &Space, number: u32, level: usize, other: u32) -> bool
-    requires number { number < length (pieces space.now.list) }
-    requires other { other < length (pieces space.now.list) }
-    ensures { result ≡ in_group space.now.list number level (piece space.now.list other) }
-{
-    share(level, places(space, number), places(space, other))
-}
-
 /// The least piece of the group at the first level that moves which doesn't share the last one.
-fn unshared(space: &Space, number: u32, order: &[i64]) -> Option<Shape>
+fn unshared_moving(space: &Space, number: u32, order: &[i64]) -> Option<Shape>
     requires { number < length (pieces space.now.list) }
-    ensures { result ≡ unshared space.now.list (pos number) (moving 1 order.now) }
+    ensures { result ≡ unshared_moving space.now.list (pos number) (moving 1 order.now) }
 {
     match first_moving(order) {
         None => None,
-        Some(first) => unshared_from(space, number, first, last_moving(order, first)),
+        Some(first) => unshared(space, number, first, last_moving(order, first)),
     }
-}
-
-/// Whether the other piece is in the group at level `first`, but doesn't share level `last`.
-fn is_left(space: &Space, number: u32, first: usize, last: usize, other: u32) -> bool
-    requires number { number < length (pieces space.now.list) }
-    requires other { other < length (pieces space.now.list) }
-    ensures { result ≡ (in_group space.now.list number first (piece space.now.list other)
-        && not (in_group space.now.list number last (piece space.now.list other))) }
-{
-    in_group(space, number, first, other) && !in_group(space, number, last, other)
-}
-
-/// The least piece of the group at level `first` that doesn't share level `last`.
-fn unshared_from(space: &Space, number: u32, first: usize, last: usize) -> Option<Shape>
-    requires { number < length (pieces space.now.list) }
-    ensures { result ≡ first_failing 5
-        (λ k. in_group space.now.list number last (piece space.now.list (natural k)))
-        (map pos (group space.now.list number first)) }
-{
-    for k in 0..pieces(space) {
-        if is_left(space, number, first, last, k) {
-            return Some(Shape {
-                code: 5,
-                number: i128::from(k),
-            });
-        }
-    }
-    None
 }
 
 /// Why the shape of the program forbids it, the first cause of all.
@@ -85,7 +48,7 @@ fn permute_cause(space: &Space, number: i64, order: &[i64]) -> Option<Shape>
     if !is_permutation(order) {
         return Some(Shape { code: 3, number: 0 });
     }
-    unshared(space, index(space, number), order)
+    unshared_moving(space, index(space, number), order)
 }
 
 /// The space, where nothing forbids the command.

@@ -1,4 +1,4 @@
-use Rattle.std.proofs.Common.{◌≡◌, ap, ◌∙◌, sym, unsigned_abs, length, SFits, w64, arith}
+use Rattle.std.proofs.Common.{ap, sym, SFits, w64, arith}
 use Rattle.std.proofs.lemmas.Int.{ints, to_z-of_z}
 use Rattle.ch_space.specs.Listed.{Listed}
 use Rattle.ch_space.proofs.Readings.{count_is}

@@ -1,7 +1,8 @@
 use Rattle.std.proofs.Common.{ap, map, pos, ◌∙◌}
 use Rattle.ch_permute.specs.Changed.{in_first}
 use Rattle.ch_permute.specs.Permuted.{in_moving, moving, picked}
-use Rattle.ch_permute.proofs.Becoming.{item_whole, moves_is, next_become, turns_where}
+use Rattle.ch_permute.proofs.Becoming.{moves_is, next_become, turns_where}
+use Rattle.ch_moved.proofs.Named.{item_whole}
 use Rattle.ch_space.specs.Keeps.{places_of}
 use Rattle.ch_space.specs.Pieces.{listed}
 use Rattle.ch_permute.proofs.change.permuted_pieces.Goals as goal

@@ -6,7 +6,8 @@ use Rattle.ch_affine.specs.Affine.{form}
 use Rattle.ch_moved.specs.Arguments.{is_named, natural}
 use Rattle.ch_permute.specs.Lowered.{plus}
 use Rattle.ch_permute.specs.Raised.{growth}
-use Rattle.ch_permute.proofs.Becoming.{is_deep, item_whole, named_is, next_become}
+use Rattle.ch_permute.proofs.Becoming.{next_become}
+use Rattle.ch_moved.proofs.Named.{is_deep, item_whole, named_is}
 use Rattle.ch_space.specs.Keeps.{places_of}
 use Rattle.ch_space.specs.Pieces.{listed}
 use Rattle.ch_permute.proofs.change.raised_pieces.Goals as goal

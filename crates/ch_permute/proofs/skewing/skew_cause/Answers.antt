@@ -1,5 +1,5 @@
 use Rattle.std.proofs.Common.{sym, ◌∙◌}
-use Rattle.ch_permute.proofs.Allowed.{all_small}
+use Rattle.ch_moved.proofs.Allowed.{all_small}
 use Rattle.ch_permute.proofs.skewing.skew_cause.Goals as goal
 
 pub growth-requires : goal.growth-requires

@@ -1,10 +1,10 @@
 use Rattle.std.proofs.Common.{length, arith}
 use Rattle.std.proofs.lemmas.Int.{ints}
 use Rattle.ch_moved.specs.Arguments.{natural}
-use Rattle.ch_permute.proofs.Leaving.{found_from, next_from}
+use Rattle.ch_moved.proofs.Leaving.{found_from, next_from}
 use Rattle.ch_timed.specs.Groups.{in_group, piece}
 use Rattle.ch_timed.specs.Timed.{pieces}
-use Rattle.ch_permute.proofs.permuting.unshared_from.Goals as goal
+use Rattle.ch_moved.proofs.causes.unshared.Goals as goal
 
 pub returns-then-is_left : goal.returns-then-is_left
 returns-then-is_left c =

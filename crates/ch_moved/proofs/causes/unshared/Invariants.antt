@@ -5,7 +5,7 @@ use Rattle.ch_moved.specs.Causes.{first_failing}
 use Rattle.ch_space.specs.Members.{group}
 use Rattle.ch_timed.specs.Groups.{in_group, piece}
 use Rattle.ch_timed.specs.Timed.{pieces}
-use Rattle.ch_permute.proofs.permuting.unshared_from.Given as goal
+use Rattle.ch_moved.proofs.causes.unshared.Given as goal
 
 abbrev pub invariant-loop-k : goal.invariant-loop-k
 invariant-loop-k l =

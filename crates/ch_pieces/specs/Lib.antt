@@ -1,0 +1,4 @@
+pub mod Assembled
+pub mod InOrder
+pub mod Counting
+pub mod Candidates
