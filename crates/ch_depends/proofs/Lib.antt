@@ -7,3 +7,4 @@ pub mod Dependences
 pub mod Points
 pub mod Gathered
 pub mod Answering
+pub mod Unrelated

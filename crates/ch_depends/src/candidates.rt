@@ -8,6 +8,7 @@ ghost use Rattle.ch_space.specs.Pieces.{element_at, instances};
 ghost use Rattle.ch_timed.specs.Members.{In};
 
 use crate::elements::element_at;
+use crate::levels::depend;
 use crate::sides::Side;
 use ch_meeting::least_reversal;
 use ch_nest::Access;
@@ -191,6 +192,10 @@ fn least_of_sides(alloc: Global, from: &Side, to: &Side) -> Result<Option<Candid
     requires to { IsSide to.now }
     ensures { IfOk result (IsBest (Reversed from.now to.now)) }
 {
+    // Most pairs of pieces have nothing to reverse, which takes much less asking than each pair of partners does.
+    if !depend(alloc, from, to)? {
+        return Ok(None);
+    }
     let mut best = None;
     for r in from.partners.as_slice() {
         best = lesser(best, least_after(alloc, from, to, r)?);

@@ -1,6 +1,6 @@
 //! Which pieces depend on one another at which level.
 
-ghost use Rattle.std.specs.Prelude.{◌+◌, ◌<◌, ◌≤◌, map, length, IfOk, OnOk, IsTrue, ◌↔◌};
+ghost use Rattle.std.specs.Prelude.{ℕ, ◌+◌, ◌<◌, ◌≤◌, map, length, IfOk, OnOk, IsTrue, ◌↔◌};
 ghost use Rattle.std.specs.List.{All};
 ghost use Rattle.ch_depends.specs.declared.answers.Level.{Level};
 ghost use Rattle.ch_depends.specs.Depends.{Ascends, IsDependence};
@@ -81,6 +81,22 @@ fn depend_at(alloc: Global, from: &Side, to: &Side, level: u32) -> Result<bool, 
         return Ok(true);
     }
     read_meets(alloc, p, q, from.reads.as_slice(), level)
+}
+
+/// Whether an element of the first side and a later one of the second conflict.
+pub(crate) fn depend(alloc: Global, from: &Side, to: &Side) -> Result<bool, AllocError>
+    requires from { IsSide from.now }
+    requires to { IsSide to.now }
+    ensures { IfOk result (λ answer. IsTrue answer
+        ↔ ((level : ℕ) × Meets from.now.piece.now to.now.piece.now level)) }
+{
+    let depth = from.piece.levels.min(to.piece.levels);
+    for differing in 0..depth + 1 {
+        if depend_at(alloc, from, to, differing)? {
+            return Ok(true);
+        }
+    }
+    Ok(false)
 }
 
 /// Adds the triple where its pieces depend at its level.

@@ -5,3 +5,4 @@ pub mod Substituted
 pub mod Spread
 pub mod Changed
 pub mod Reindexed
+pub mod Room

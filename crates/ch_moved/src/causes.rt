@@ -1,10 +1,10 @@
 //! The causes that several commands share, and the levels of pieces that numbers name.
 
-ghost use Rattle.std.specs.Prelude.{◌≡◌, ◌+◌, ◌*◌, ◌<◌, ◌≤◌, ◌^◌, ◌<ℤ◌, not, ◌&&◌, None, true, pos, length, IsTrue};
+ghost use Rattle.std.specs.Prelude.{◌≡◌, ◌+◌, ◌*◌, ◌<◌, ◌≤◌, ◌^◌, ◌<ℤ◌, nat_le, not, ◌&&◌, unsigned_abs, None, true, pos, length, IsTrue};
 ghost use Rattle.std.specs.List.{list_any};
 ghost use Rattle.std.specs.Ordering.{int_eq};
 ghost use Rattle.ch_moved.specs.Arguments.{depth, has_level, is_piece, natural};
-ghost use Rattle.ch_moved.specs.Causes.{cause, has_twice, named_twice, no_level, no_piece, too_heavy, unshared};
+ghost use Rattle.ch_moved.specs.Causes.{cause, first_failing, has_twice, named_twice, no_level, no_piece, too_heavy, unshared};
 ghost use Rattle.ch_space.specs.Keeps.{most_weight};
 ghost use Rattle.ch_timed.specs.Groups.{in_group, piece};
 ghost use Rattle.ch_timed.specs.Timed.{pieces};
@@ -109,6 +109,21 @@ pub fn named_twice(numbers: &[i64]) -> Option<Shape>
 {
     if has_twice(numbers) {
         return Some(Shape { code: 3, number: 0 });
+    }
+    None
+}
+
+/// The first number of a magnitude above the limit.
+pub fn too_large(numbers: &[i64], most: u64) -> Option<Shape>
+    ensures { result ≡ first_failing 4 (λ a. nat_le (unsigned_abs a) most) numbers.now }
+{
+    for number in numbers {
+        if number.unsigned_abs() > most {
+            return Some(Shape {
+                code: 4,
+                number: i128::from(*number),
+            });
+        }
     }
     None
 }

@@ -1,5 +1,6 @@
 -- The two changes of a piece: levels that change places, and one level that becomes greater.
 use Rattle.std.proofs.Common.{◌≡◌, sym, ap, ap₂, ◌∙◌, subst, ℕ, ◌+◌, ◌-◌, ◌*◌, ◌<◌, ◌≤◌, ◌^◌, ℤ, pos, ◌+ℤ◌, neg_ℤ, unsigned_abs, true, List, map, length, get_or, set, take, sum, inl, inr, arith}
+use Rattle.ch_moved.specs.Room.{origin_range}
 use Rattle.std.specs.List.{All}
 use Rattle.std.proofs.lemmas.Int.{ints}
 use Rattle.std.proofs.lemmas.Nat.{mul-le}
@@ -17,7 +18,7 @@ use Rattle.ch_moved.specs.Substituted.{image, substituted}
 use Rattle.ch_permute.specs.Lowered.{greater, less, minus_forms, plus}
 use Rattle.ch_permute.specs.Permuted.{picked}
 use Rattle.ch_permute.specs.Raised.{growth}
-use Rattle.ch_permute.specs.Turned.{Turns, origin_range, source, target, turned, turned_boxes, turned_forms}
+use Rattle.ch_permute.specs.Turned.{Turns, source, target, turned, turned_boxes, turned_forms}
 use Rattle.ch_permute.proofs.Changing.{Changes, IsOrdered, same_changes}
 use Rattle.ch_permute.proofs.Columns.{column_turned, constants_turned, dot_column_minus, dot_constants_minus, form_at, forms_count, length_unit, same_or_not}
 use Rattle.ch_moved.proofs.Limits.{at_most_at, bounded_product, far_more, farther, in_sum, narrow_by}

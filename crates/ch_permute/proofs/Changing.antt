@@ -1,5 +1,6 @@
 -- Pieces over new levels are changed ones, for each of the two changes.
 use Rattle.std.proofs.Common.{◌≡◌, refl, sym, ap, ap₂, ◌∙◌, subst, ℕ, ◌+◌, ◌*◌, ◌≤◌, ◌^◌, ℤ, pos, ◌≤ℤ◌, true, List, [], ◌∷◌, map, length, get_or, take, Result, Ok, Err, arith}
+use Rattle.ch_moved.specs.Room.{HasRoom}
 use Rattle.std.specs.Result.{IfOk}
 use Rattle.std.specs.declared.alloc.AllocError.{AllocError}
 use Rattle.std.specs.List.{All}
@@ -13,7 +14,7 @@ use Rattle.ch_moved.specs.Changed.{AllLong}
 use Rattle.ch_moved.specs.Reindexed.{IsReindexed}
 use Rattle.ch_moved.specs.Substituted.{image, substituted}
 use Rattle.ch_moved.proofs.Substitutes.{value_spread}
-use Rattle.ch_permute.specs.Changed.{FitPiece, HasRoom, IsChanged}
+use Rattle.ch_permute.specs.Changed.{FitPiece, IsChanged}
 use Rattle.ch_moved.proofs.Limits.{far_most, length_substituted, narrow_small}
 use Rattle.ch_moved.proofs.Values.{lies_length}
 use Rattle.ch_space.specs.Keeps.{IsBounded, IsLimited, IsNarrow, IsWhole, farthest, places_of}

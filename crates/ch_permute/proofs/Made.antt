@@ -1,5 +1,6 @@
 -- Pieces of which some changed make a space, which stands for the moved list.
 use Rattle.std.proofs.Common.{◌≡◌, refl, sym, ap, ap₂, ◌∙◌, subst, ℕ, ◌+◌, ◌*◌, ◌<◌, ◌≤◌, ℤ, Bool, true, false, cond, List, [], ◌∷◌, arith, Result, Ok, Err, IfOk}
+use Rattle.ch_moved.specs.Room.{HasRoom}
 use Rattle.std.specs.List.{All}
 use Rattle.std.specs.declared.alloc.AllocError.{AllocError}
 use Rattle.std.proofs.lemmas.Nat.{mul-le}
@@ -8,7 +9,7 @@ use Rattle.ch_moved.specs.Moved.{moved, revalued}
 use Rattle.ch_moved.proofs.Remade.{AllRemade, IsRemade, among_remade, remade_among, remade_list, remade_space}
 use Rattle.ch_moved.proofs.Taken.{among_closed, closed_among}
 use Rattle.ch_order.specs.Legal.{AreAmong}
-use Rattle.ch_permute.specs.Changed.{AllBecome, Becomes, HasRoom}
+use Rattle.ch_permute.specs.Changed.{AllBecome, Becomes}
 use Rattle.ch_moved.proofs.Limits.{more_limits}
 use Rattle.ch_space.specs.declared.piece.Piece.{Piece}
 use Rattle.ch_space.specs.Keeps.{AreApart, IsLimited, IsSpace, IsWhole, most_commands, most_weight, places_of}

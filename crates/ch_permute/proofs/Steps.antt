@@ -1,5 +1,6 @@
 -- The steps of the code over orders and forms.
 use Rattle.std.proofs.Common.{◌≡◌, ◌≢◌, refl, sym, ap, ap₂, ◌∙◌, subst, ℕ, zero, suc, ◌+◌, ◌-◌, ◌<◌, ◌≤◌, ◌^◌, ℤ, pos, ◌-ℤ◌, neg_ℤ, unsigned_abs, Bool, true, false, List, [], ◌∷◌, ◌++◌, map, length, get_or, set, take, drop, ◌+ℤ◌, arith}
+use Rattle.ch_moved.specs.Room.{origin_range}
 use Rattle.std.specs.List.{All, list_all, list_any, range_with_len}
 use Rattle.std.specs.Ordering.{int_eq}
 use Rattle.std.proofs.lemmas.Int.{ints}
@@ -16,7 +17,7 @@ use Rattle.ch_space.proofs.PieceNumbers.{range_more}
 use Rattle.ch_space.specs.Built.{unit, zeros}
 use Rattle.ch_permute.specs.Lowered.{greater, less, minus_forms}
 use Rattle.ch_permute.specs.Permuted.{is_permutation}
-use Rattle.ch_permute.specs.Turned.{origin_range, source, turned_forms}
+use Rattle.ch_permute.specs.Turned.{source, turned_forms}
 use Rattle.ch_permute.proofs.Columns.{form_at, forms_count, length_unit}
 use Rattle.ch_permute.proofs.Turns.{level_at, order_of, source_in}
 

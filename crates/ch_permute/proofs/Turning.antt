@@ -1,5 +1,6 @@
 -- Loop values that change places, and change back.
 use Rattle.std.proofs.Common.{◌≡◌, sym, ap, ◌∙◌, subst, ℕ, ◌+◌, ◌-◌, ◌<◌, ◌≤◌, ℤ, pos, true, false, List, map, length, take, drop, get_or, min, ltb, inl, inr, arith}
+use Rattle.ch_moved.specs.Room.{origin_range}
 use Rattle.std.proofs.lemmas.Bool.{cases_lt}
 use Rattle.std.proofs.lemmas.Int.{ints}
 use Rattle.std.proofs.lemmas.List.{ext_get_or, get_or-append_right, get_or-drop, get_or-map, get_or-take, get_or_append_left, length-append, length-drop, length-map, length-take}
@@ -10,7 +11,7 @@ use Rattle.ch_affine.specs.declared.system.Range.{Range}
 use Rattle.ch_moved.specs.Arguments.{at_level, natural}
 use Rattle.ch_moved.specs.Substituted.{image}
 use Rattle.ch_permute.specs.Permuted.{picked}
-use Rattle.ch_permute.specs.Turned.{origin_range, source, turned, turned_boxes, turned_forms}
+use Rattle.ch_permute.specs.Turned.{source, turned, turned_boxes, turned_forms}
 use Rattle.ch_space.specs.Built.{unit}
 use Rattle.ch_moved.proofs.Values.{IsWithin, dot_unit, lies_at, lies_by, lies_length}
 

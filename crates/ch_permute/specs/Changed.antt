@@ -1,5 +1,5 @@
 -- A piece whose loop values are other ones.
-use Rattle.std.specs.Prelude.{◌≡◌, ℕ, ◌+◌, ◌*◌, ◌<◌, ◌≤◌, ◌^◌, ℤ, Bool, true, false, Option, Some, None, List, [], ◌∷◌, length}
+use Rattle.std.specs.Prelude.{◌≡◌, ℕ, ◌+◌, ◌*◌, ◌≤◌, ◌^◌, ℤ, Bool, true, false, Option, Some, None, List, [], ◌∷◌, length}
 use Rattle.std.specs.List.{All}
 use Rattle.ch_affine.specs.Affine.{IsAtMost, IsSmall}
 use Rattle.ch_affine.specs.Form.{Form}
@@ -7,7 +7,7 @@ use Rattle.ch_affine.specs.Rows.{IsBox}
 use Rattle.ch_affine.specs.declared.system.Range.{Range}
 use Rattle.ch_moved.specs.Substituted.{substituted}
 use Rattle.ch_space.specs.declared.piece.Piece.{Piece}
-use Rattle.ch_space.specs.Keeps.{IsLimited, IsWhole, most_commands, most_levels, most_weight, places_of}
+use Rattle.ch_space.specs.Keeps.{IsLimited, IsWhole, most_levels, places_of}
 use Rattle.ch_space.specs.Pieces.{element_at, instances}
 use Rattle.ch_timed.specs.Closed.{at_vector}
 use Rattle.ch_timed.specs.Members.{In}
@@ -26,15 +26,6 @@ pub record IsChanged (new : List ℤ → List ℤ) (by : ℕ) (p q : Piece) : Ty
       → at_vector (element_at p xs) (woven (places_of p) (new xs)) ≡ element_at q (new xs)
   pub limited : (weight commands : ℕ) → 1 ≤ weight → 1 ≤ by → IsLimited weight commands p
       → IsLimited (weight * by) (commands + 1) q
-
--- The numbers of the piece may become `by` times as large in one more command.
-pub record HasRoom (by : ℕ) (p : Piece) : Type 0 where
-  pub weight : ℕ
-  pub commands : ℕ
-  pub limited : IsLimited weight commands p
-  pub some : 1 ≤ weight
-  pub small : weight * by ≤ most_weight
-  pub few : commands < most_commands
 
 -- changed where the test holds of the places, and else the same
 abbrev pub Becomes : Bool → (List ℤ → List ℤ) → ℕ → Piece → Piece → Type 0

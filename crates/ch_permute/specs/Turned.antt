@@ -1,5 +1,6 @@
 -- Loop values that change places.
 use Rattle.std.specs.Prelude.{◌≡◌, ℕ, suc, ◌-◌, ◌<◌, ℤ, pos, Bool, true, false, if◌then◌else◌, nat_lt, List, [], ◌∷◌, length, map, slice_index_or}
+use Rattle.ch_moved.specs.Room.{origin_range}
 use Rattle.std.specs.List.{range_with_len}
 use Rattle.std.specs.Ordering.{int_eq}
 use Rattle.ch_affine.specs.Form.{Form}
@@ -31,10 +32,6 @@ target order k = target_by (nat_lt k (length order)) order k
 -- the values, at each place that of the place which `from` names
 abbrev pub turned : (ℕ → ℕ) → List ℤ → List ℤ
 turned from xs = map (λ k. slice_index_or xs (from k) (pos 0)) (range_with_len 0 (length xs))
-
--- the range of 0 alone
-abbrev pub origin_range : Range
-origin_range = record { low = pos 0; high = pos 0 }
 
 -- the ranges of such values
 abbrev pub turned_boxes : (ℕ → ℕ) → List Range → List Range

@@ -1,10 +1,11 @@
 //! Pieces with other loop values.
 
 ghost use Rattle.std.specs.Prelude.{◌≡◌, ℕ, ◌+◌, ◌<◌, ◌≤◌, ◌^◌, [], length, IfOk, IsTrue};
+ghost use Rattle.ch_moved.specs.Room.{HasRoom};
 ghost use Rattle.std.specs.List.{All};
 ghost use Rattle.ch_affine.specs.Affine.{form, IsAtMost};
 ghost use Rattle.ch_moved.specs.Reindexed.{IsReindexed};
-ghost use Rattle.ch_permute.specs.Changed.{FitPiece, HasRoom, IsChanged};
+ghost use Rattle.ch_permute.specs.Changed.{FitPiece, IsChanged};
 ghost use Rattle.ch_permute.specs.Lowered.{plus};
 ghost use Rattle.ch_permute.specs.Permuted.{is_permutation, picked};
 ghost use Rattle.ch_permute.specs.Raised.{growth};

@@ -1,12 +1,13 @@
 //! The ranges of the new loop values.
 
 ghost use Rattle.std.specs.Prelude.{◌≡◌, ◌+◌, ◌*◌, ◌≤◌, ◌<◌, ◌^◌, ℕ, ◌+ℤ◌, length, slice_index_or, slice_set, IfOk, IsTrue};
+ghost use Rattle.ch_moved.specs.Room.{origin_range};
 ghost use Rattle.std.specs.List.{All};
 ghost use Rattle.ch_affine.specs.Affine.{form, IsAtMost};
 ghost use Rattle.ch_nest.specs.Shape.{greatest_term, least_term};
 ghost use Rattle.ch_permute.specs.Lowered.{greater};
 ghost use Rattle.ch_permute.specs.Permuted.{is_permutation};
-ghost use Rattle.ch_permute.specs.Turned.{origin_range, source, turned_boxes};
+ghost use Rattle.ch_permute.specs.Turned.{source, turned_boxes};
 ghost use Rattle.ch_space.specs.Keeps.{IsBounded};
 
 use crate::ordering::source;

@@ -13,7 +13,7 @@ ghost use Rattle.ch_space.specs.Keeps.{most_weight};
 
 use crate::change::raised_pieces;
 use ch_affine::List;
-use ch_moved::causes::{named_twice, no_level, no_piece, too_heavy};
+use ch_moved::causes::{named_twice, no_level, no_piece, too_heavy, too_large};
 use ch_moved::closed_space;
 use ch_nest::Shape;
 use ch_space::{ShapeError, Space};
@@ -31,21 +31,6 @@ fn wrong_count(level: i64, amounts: &[i64]) -> Option<Shape>
         code: 4,
         number: count,
     })
-}
-
-/// The first amount of a magnitude above the limit.
-fn too_large(amounts: &[i64], most: u64) -> Option<Shape>
-    ensures { result ≡ first_failing 4 (λ a. nat_le (unsigned_abs a) most) amounts.now }
-{
-    for amount in amounts {
-        if amount.unsigned_abs() > most {
-            return Some(Shape {
-                code: 4,
-                number: i128::from(*amount),
-            });
-        }
-    }
-    None
 }
 
 /// The number by which a skew multiplies the weight.

@@ -8,8 +8,10 @@ mod closing;
 mod count;
 mod moved;
 mod parts;
+mod places;
 
 pub use assemble::assembled;
 pub use candidate::{Assembled, Candidate};
 pub use count::count_instances;
 pub use moved::moved_space;
+pub use places::wide_places;

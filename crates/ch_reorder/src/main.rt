@@ -6,6 +6,7 @@
 //! legality of each command is asked for, which changes no output, so that a run can be timed.
 #![tactic(auto)]
 
+mod plain;
 mod recipe;
 mod verdict;
 mod walk;

@@ -2,15 +2,16 @@
 
 ghost use Rattle.ch_order.specs.Legal.{AreAmong};
 
-use crate::recipe::applied;
-use crate::walk::agrees;
+use crate::plain::is_moved;
+use crate::recipe::{Command, applied, parsed};
+use crate::walk::{agrees, elements};
 use ch_affine::Text;
 use ch_deck::{DeckError, Program, read_deck};
 use ch_depends::{Pair, pairs, reversed};
 use ch_nest::{ArrayDecl, Shape};
 use ch_order::same_meaning;
 use ch_print::{put_buffer, put_cell, put_identity, put_number, put_wide};
-use ch_space::{ShapeError, Space, SpaceError, count, of_nest, pieces};
+use ch_space::{ShapeError, Space, SpaceError, count, of_nest, piece_count, pieces};
 use ch_timed::Cell;
 use std::alloc::{AllocError, Global};
 
@@ -64,6 +65,17 @@ fn legal_text(alloc: Global, space: &Space) -> Result<Text, AllocError> {
     Ok(out)
 }
 
+/// How many instances each piece has, in the order of their numbers.
+fn counts_text(alloc: Global, space: &Space) -> Result<Text, AllocError> {
+    let mut out = Text::new(alloc);
+    out.append(b"counts")?;
+    for number in 0..pieces(space) {
+        out.append(b" ")?;
+        put_number(&mut out, piece_count(space, number))?;
+    }
+    Ok(out)
+}
+
 /// The dependences of the program itself: the numbers of both pieces, and the level.
 fn pairs_text(alloc: Global, space: &Space) -> Result<Text, AllocError> {
     let mut out = Text::new(alloc);
@@ -90,6 +102,9 @@ fn asked(alloc: Global, old: &Space, new: &Space, repeats: u32) -> Result<Option
     reversed(alloc, old, new)
 }
 
+/// The most elements of a list that is compared by `same_meaning` too, whose time grows with the third power of that number.
+const MOST_COMPARED: u64 = 64;
+
 /// What one command leaves: a space to go on with, or a refusal.
 enum Outcome {
     Next(Space),
@@ -108,7 +123,7 @@ fn compared(
     requires { AreAmong old.now.list new.list }
 {
     let pair = asked(alloc, old, &new, repeats)?;
-    if same_meaning(alloc, old, &new)? != pair.is_none() {
+    if count(old) <= MOST_COMPARED && same_meaning(alloc, old, &new)? != pair.is_none() {
         return Ok(Outcome::Refused(disagreement(alloc)?));
     }
     if !agrees(alloc, old, &new, pair.as_ref())? {
@@ -118,6 +133,21 @@ fn compared(
         None => Ok(Outcome::Next(new)),
         Some(pair) => Ok(Outcome::Refused(pair_text(alloc, number, arrays, &pair)?)),
     }
+}
+
+/// Whether the new list is what the command's definition makes of the old one, and its pieces have the counts that are kept.
+fn is_defined(
+    alloc: Global,
+    old: &Space,
+    new: &Space,
+    command: &Command,
+) -> Result<bool, AllocError> {
+    let olds = elements(alloc, old)?;
+    let news = elements(alloc, new)?;
+    if count(new) != news.len() as u64 {
+        return Ok(false);
+    }
+    is_moved(alloc, &olds, &news, command)
 }
 
 fn disagreement(alloc: Global) -> Result<Text, AllocError> {
@@ -132,11 +162,17 @@ fn step(
     number: u64,
     arrays: &[ArrayDecl],
     space: &Space,
-    command: &str,
+    text: &str,
     repeats: u32,
 ) -> Result<Outcome, AllocError> {
-    match applied(alloc, space, command) {
-        Ok(new) => compared(alloc, number, arrays, space, new, repeats),
+    let command = parsed(alloc, text)?;
+    match applied(alloc, space, &command) {
+        Ok(new) => {
+            if !is_defined(alloc, space, &new, &command)? {
+                return Ok(Outcome::Refused(disagreement(alloc)?));
+            }
+            compared(alloc, number, arrays, space, new, repeats)
+        }
         Err(ShapeError::Memory) => Err(AllocError),
         Err(ShapeError::Shape(cause)) => Ok(Outcome::Refused(shape_text(alloc, number, cause)?)),
     }
@@ -152,6 +188,9 @@ fn judged(
 ) -> Result<Text, AllocError> {
     let mut space = space;
     for (k, command) in recipe.split(';').enumerate() {
+        if command == "counts" {
+            return counts_text(alloc, &space);
+        }
         match step(alloc, k as u64 + 1, arrays, &space, command, repeats)? {
             Outcome::Refused(answer) => return Ok(answer),
             Outcome::Next(new) => space = new,

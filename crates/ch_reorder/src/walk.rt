@@ -7,7 +7,7 @@ use ch_timed::{Cell, Element, Identity, Timed};
 use std::alloc::{AllocError, Global};
 
 /// The elements of a list, in order. Longer lists than the cases have are cut off.
-fn elements<T: Timed>(alloc: Global, list: &T) -> Result<Vec<Element>, AllocError> {
+pub(crate) fn elements<T: Timed>(alloc: Global, list: &T) -> Result<Vec<Element>, AllocError> {
     let mut elements = Vec::new(alloc);
     let mut vector: List<i64> = List::new(alloc);
     for _ in 0..4096 {
@@ -100,7 +100,7 @@ fn same_identity(a: &Identity, b: &Identity) -> bool {
     a.label == b.label && a.iters.as_slice() == b.iters.as_slice()
 }
 
-fn place(elements: &[Element], identity: &Identity) -> usize {
+pub(crate) fn place(elements: &[Element], identity: &Identity) -> usize {
     for k in 0..elements.len() {
         if same_identity(&elements[k].identity, identity) {
             return k;

@@ -1,6 +1,7 @@
 use Rattle.ch_depends.specs.Sought.{Conflicts, SomeOf, partners_of}
 use Rattle.ch_meeting.specs.Meeting.{IsPlain}
 use Rattle.ch_depends.proofs.Bests.{item_all, item_end, item_more}
+use Rattle.ch_depends.proofs.Unrelated.{none_reversed}
 use Rattle.ch_depends.proofs.candidates.least_of_sides.Goals as goal
 
 pub least_after-requires-clause-r : goal.least_after-requires-clause-r
@@ -18,3 +19,6 @@ returns c =
     item_end (λ r. r.now) c.as_slice-r-items.result.now c.args.from.now.partners c.as_slice-r-items.ensures c.loop-r.r-index
     (λ u. SomeOf (partners_of c.args.to.now) (Conflicts c.args.from.now.piece.now c.args.to.now.piece.now u))
     c.loop-r.best c.loop-r-test.false c.loop-r.invariant
+
+pub returns-then-not-branch : goal.returns-then-not-branch
+returns-then-not-branch c = none_reversed c.args.from.now c.args.to.now c.in_ok-depend.field-0 c.in_ok-depend.ensures c.if-not-branch.true

@@ -1,6 +1,7 @@
 use Rattle.std.proofs.Common.{◌≡◌, get_or, map}
+use Rattle.ch_moved.specs.Room.{origin_range}
 use Rattle.std.specs.List.{range_with_len}
-use Rattle.ch_permute.specs.Turned.{origin_range, source}
+use Rattle.ch_permute.specs.Turned.{source}
 use Rattle.ch_permute.proofs.ranges.turned_boxes.Given as goal
 
 abbrev pub invariant-loop-k : goal.invariant-loop-k

@@ -1,0 +1,4 @@
+pub mod Cut
+pub mod Forms
+pub mod Parts
+pub mod Ends

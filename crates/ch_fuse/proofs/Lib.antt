@@ -1,0 +1,11 @@
+pub mod Differing
+pub mod FusedPlaces
+pub mod DistributedPlaces
+pub mod Relocating
+pub mod Number
+pub mod Extremes
+pub mod Steps
+pub mod FusedPieces
+pub mod DistributedPieces
+pub mod Made
+pub mod Unmoved

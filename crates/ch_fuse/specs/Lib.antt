@@ -1,0 +1,3 @@
+pub mod Fused
+pub mod Distributed
+pub mod Replaced

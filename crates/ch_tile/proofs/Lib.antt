@@ -1,0 +1,10 @@
+pub mod Tiles
+pub mod Insertions
+pub mod TiledPieces
+pub mod Deeper
+pub mod TiledPlaces
+pub mod TiledForms
+pub mod Reindexing
+pub mod Allowed
+pub mod Made
+pub mod Steps

@@ -1,0 +1,3 @@
+pub mod Tiled
+pub mod Layout
+pub mod Pieces

@@ -1,0 +1,9 @@
+pub mod Quotients
+pub mod Forms
+pub mod Growth
+pub mod Splitting
+pub mod Layouts
+pub mod Copied
+pub mod Pushing
+pub mod Laying
+pub mod Allowed

@@ -1,0 +1,4 @@
+pub mod Unrolled
+pub mod Layouts
+pub mod Turns
+pub mod Copies
