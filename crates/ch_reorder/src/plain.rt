@@ -268,6 +268,25 @@ fn is_peeled(plain: &Plain, level: i64, count: i64, ends: (i64, i64)) -> bool {
     }
 }
 
+fn split(list: &mut [Plain], ours: &[i64], level: i64, coefs: &[i64], constant: i64) {
+    for plain in list {
+        if beside(level, ours, &plain.places) {
+            let fails = share(level, ours, &plain.places) && !holds(plain, coefs, constant);
+            cut(plain, level, fails);
+        }
+    }
+}
+
+fn peeled(list: &mut [Plain], ours: &[i64], level: i64, count: i64) {
+    let ends = ends(list, ours, level);
+    for plain in list {
+        if beside(level, ours, &plain.places) {
+            let fails = share(level, ours, &plain.places) && !is_peeled(plain, level, count, ends);
+            cut(plain, level, fails);
+        }
+    }
+}
+
 fn fused(pieces: &[Vec<i64>], plain: &mut Plain, numbers: &[i64], level: i64) {
     if !is_grouped(pieces, numbers, level, &plain.places) {
         return;
@@ -319,13 +338,16 @@ fn distributed(pieces: &[Vec<i64>], plain: &mut Plain, leader: i64, level: i64, 
     plain.set_place(outer, place);
 }
 
-/// What the command does to the vectors, before places are closed up.
-fn move_all(alloc: Global, list: &mut [Plain], command: &Command) -> Result<(), AllocError> {
-    let pieces = pieces(alloc, list)?;
+/// What a command that changes loop values alone, or adds a loop, does to the vectors.
+fn move_values(
+    pieces: &[Vec<i64>],
+    list: &mut [Plain],
+    command: &Command,
+) -> Result<(), AllocError> {
     match command {
         Command::Permute { piece, order } => {
             for plain in list {
-                permuted(&pieces, plain, *piece, order);
+                permuted(pieces, plain, *piece, order);
             }
         }
         Command::Skew {
@@ -334,7 +356,7 @@ fn move_all(alloc: Global, list: &mut [Plain], command: &Command) -> Result<(), 
             amounts,
         } => {
             for plain in list {
-                if is_named(&pieces, numbers, &plain.places) {
+                if is_named(pieces, numbers, &plain.places) {
                     raised(plain, *level, amounts, 0);
                 }
             }
@@ -345,7 +367,7 @@ fn move_all(alloc: Global, list: &mut [Plain], command: &Command) -> Result<(), 
             amount,
         } => {
             for plain in list {
-                if is_named(&pieces, numbers, &plain.places) {
+                if is_named(pieces, numbers, &plain.places) {
                     raised(plain, *level, &[], *amount);
                 }
             }
@@ -357,19 +379,32 @@ fn move_all(alloc: Global, list: &mut [Plain], command: &Command) -> Result<(), 
             outer,
         } => {
             for plain in list {
-                if share(*outer, piece(&pieces, *number), &plain.places) {
+                if share(*outer, piece(pieces, *number), &plain.places) {
                     tiled(plain, *level, *size, *outer)?;
                 }
             }
         }
+        _ => {}
+    }
+    Ok(())
+}
+
+/// What a command that changes places does to the vectors.
+fn move_places(
+    alloc: Global,
+    pieces: &[Vec<i64>],
+    list: &mut [Plain],
+    command: &Command,
+) -> Result<(), AllocError> {
+    match command {
         Command::Unroll {
             piece: number,
             level,
             amount,
         } => {
             for plain in list {
-                if share(*level, piece(&pieces, *number), &plain.places) {
-                    unrolled(&pieces, plain, *number, *level, *amount);
+                if share(*level, piece(pieces, *number), &plain.places) {
+                    unrolled(pieces, plain, *number, *level, *amount);
                 }
             }
         }
@@ -378,53 +413,41 @@ fn move_all(alloc: Global, list: &mut [Plain], command: &Command) -> Result<(), 
             level,
             coefs,
             constant,
-        } => {
-            let ours = piece(&pieces, *number);
-            for plain in list {
-                if beside(*level, ours, &plain.places) {
-                    let fails = share(*level, ours, &plain.places)
-                        && !holds(plain, coefs, *constant);
-                    cut(plain, *level, fails);
-                }
-            }
-        }
+        } => split(list, piece(pieces, *number), *level, coefs, *constant),
         Command::Peel {
             piece: number,
             level,
             count,
-        } => {
-            let ours = piece(&pieces, *number);
-            let ends = ends(list, ours, *level);
-            for plain in list {
-                if beside(*level, ours, &plain.places) {
-                    let fails = share(*level, ours, &plain.places)
-                        && !is_peeled(plain, *level, *count, ends);
-                    cut(plain, *level, fails);
-                }
-            }
-        }
+        } => peeled(list, piece(pieces, *number), *level, *count),
         Command::Fuse {
             pieces: numbers,
             level,
         } => {
             for plain in list {
-                fused(&pieces, plain, numbers, *level);
+                fused(pieces, plain, numbers, *level);
             }
         }
         Command::Distribute {
             pieces: numbers,
             level,
         } => {
-            let begins = beginnings(alloc, &pieces, numbers, *level)?;
+            let begins = beginnings(alloc, pieces, numbers, *level)?;
             if let Some(leader) = numbers.first() {
                 for plain in list {
-                    distributed(&pieces, plain, *leader, *level, &begins);
+                    distributed(pieces, plain, *leader, *level, &begins);
                 }
             }
         }
-        Command::Unknown => {}
+        _ => {}
     }
     Ok(())
+}
+
+/// What the command does to the vectors, before places are closed up.
+fn move_all(alloc: Global, list: &mut [Plain], command: &Command) -> Result<(), AllocError> {
+    let pieces = pieces(alloc, list)?;
+    move_values(&pieces, list, command)?;
+    move_places(alloc, &pieces, list, command)
 }
 
 /// The place at k, counted among the places that follow the same ones.
