@@ -8,6 +8,7 @@
 
 mod plain;
 mod recipe;
+mod trace;
 mod verdict;
 mod walk;
 

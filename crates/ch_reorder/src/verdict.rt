@@ -4,15 +4,17 @@ ghost use Rattle.ch_order.specs.Legal.{AreAmong};
 
 use crate::plain::is_moved;
 use crate::recipe::{Command, applied, parsed};
+use crate::trace::executes;
 use crate::walk::{agrees, elements};
 use ch_affine::Text;
+use ch_codegen::generate;
 use ch_deck::{DeckError, Program, read_deck};
 use ch_depends::{Pair, pairs, reversed};
-use ch_nest::{ArrayDecl, Shape};
+use ch_nest::{ArrayDecl, Nest, Shape};
 use ch_order::same_meaning;
 use ch_print::{put_buffer, put_cell, put_identity, put_number, put_wide};
 use ch_space::{ShapeError, Space, SpaceError, count, of_nest, piece_count, pieces};
-use ch_timed::Cell;
+use ch_timed::{Cell, Element};
 use std::alloc::{AllocError, Global};
 
 fn put_place(out: &mut Text, arrays: &[ArrayDecl], cell: &Cell) -> Result<(), AllocError> {
@@ -135,9 +137,25 @@ fn compared(
     }
 }
 
-/// Whether the new list is what the command's definition makes of the old one, and its pieces have the counts that are kept.
+/// Whether the code of the space executes its elements.
+fn is_executed(
+    alloc: Global,
+    nest: &Nest,
+    space: &Space,
+    elements: &[Element],
+) -> Result<bool, AllocError> {
+    if space.arrays as usize != nest.arrays.len() {
+        return Ok(false);
+    }
+    let unit = generate(alloc, nest, space)?;
+    executes(alloc, &unit, elements)
+}
+
+/// Whether the new list is what the command's definition makes of the old one, its pieces have the counts that are kept, and its
+/// code executes it.
 fn is_defined(
     alloc: Global,
+    nest: &Nest,
     old: &Space,
     new: &Space,
     command: &Command,
@@ -147,7 +165,10 @@ fn is_defined(
     if count(new) != news.len() as u64 {
         return Ok(false);
     }
-    is_moved(alloc, &olds, &news, command)
+    if !is_moved(alloc, &olds, &news, command)? {
+        return Ok(false);
+    }
+    is_executed(alloc, nest, new, &news)
 }
 
 fn disagreement(alloc: Global) -> Result<Text, AllocError> {
@@ -160,7 +181,7 @@ fn disagreement(alloc: Global) -> Result<Text, AllocError> {
 fn step(
     alloc: Global,
     number: u64,
-    arrays: &[ArrayDecl],
+    nest: &Nest,
     space: &Space,
     text: &str,
     repeats: u32,
@@ -168,10 +189,10 @@ fn step(
     let command = parsed(alloc, text)?;
     match applied(alloc, space, &command) {
         Ok(new) => {
-            if !is_defined(alloc, space, &new, &command)? {
+            if !is_defined(alloc, nest, space, &new, &command)? {
                 return Ok(Outcome::Refused(disagreement(alloc)?));
             }
-            compared(alloc, number, arrays, space, new, repeats)
+            compared(alloc, number, nest.arrays.as_slice(), space, new, repeats)
         }
         Err(ShapeError::Memory) => Err(AllocError),
         Err(ShapeError::Shape(cause)) => Ok(Outcome::Refused(shape_text(alloc, number, cause)?)),
@@ -181,7 +202,7 @@ fn step(
 /// What the recipe says of a space, command by command.
 fn judged(
     alloc: Global,
-    arrays: &[ArrayDecl],
+    nest: &Nest,
     space: Space,
     recipe: &str,
     repeats: u32,
@@ -191,7 +212,7 @@ fn judged(
         if command == "counts" {
             return counts_text(alloc, &space);
         }
-        match step(alloc, k as u64 + 1, arrays, &space, command, repeats)? {
+        match step(alloc, k as u64 + 1, nest, &space, command, repeats)? {
             Outcome::Refused(answer) => return Ok(answer),
             Outcome::Next(new) => space = new,
         }
@@ -219,13 +240,7 @@ fn of_program(
     if recipe == "pairs" {
         return pairs_text(alloc, &space);
     }
-    judged(
-        alloc,
-        program.nest.arrays.as_slice(),
-        space,
-        recipe,
-        repeats,
-    )
+    judged(alloc, &program.nest, space, recipe, repeats)
 }
 
 /// What the recipe says of the first program of a deck.
