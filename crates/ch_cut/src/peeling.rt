@@ -97,6 +97,11 @@ fn first_turns(
 /// The space with the first turns of the loop of the level around a piece taken out of it, as many as the count says, or, where it
 /// is below 0, the last ones: they are counted over all pieces that share the loop. It is not tested whether the program means the
 /// same.
+///
+/// # Errors
+///
+/// C1 where there is no piece of that number, C2 where it doesn't have that level, C4 where the count is 0 or has a magnitude above
+/// 16, and C7 where there are more than 256 pieces then.
 pub fn peel(
     alloc: Global,
     space: &Space,
