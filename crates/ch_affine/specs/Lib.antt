@@ -1,6 +1,9 @@
 pub mod Affine
 pub mod Combined
+pub mod Corners
 pub mod Form
 pub mod Lends
+pub mod Limits
+pub mod Negatives
 pub mod Rows
 pub mod formers

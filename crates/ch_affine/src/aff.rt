@@ -2,6 +2,7 @@ ghost use Rattle.std.specs.Prelude.{◌≡◌, ◌≤◌, ◌^◌, ◌+ℤ◌, l
 ghost use Rattle.std.specs.List.{All};
 ghost use Rattle.ch_affine.specs.Affine.{IsAtMost, IsSmall, form, value, dot};
 
+use crate::limits::{LARGEST_COEFFICIENT, MOST_VARIABLES};
 use crate::list::List;
 use crate::wide::{plus, times};
 use std::alloc::{AllocError, Global};
@@ -34,7 +35,9 @@ impl Aff {
         ensures fits { IsSome result ↔ IsSmall (form coefs constant) }
         ensures value { IfSome result (λ a. a ≡ form coefs constant) }
     {
-        let fits = coefs.len() <= 4096 && all_small(coefs.as_slice()) && is_small(constant);
+        let fits = coefs.len() <= MOST_VARIABLES as usize
+            && all_small(coefs.as_slice())
+            && is_small(constant);
         if !fits {
             return None;
         }
@@ -86,5 +89,5 @@ fn all_small(numbers: &[i64]) -> bool
 fn is_small(number: i64) -> bool
     ensures { IsTrue result ↔ IsAtMost (2 ^ 60) number }
 {
-    number.unsigned_abs() <= 1 << 60
+    number.unsigned_abs() <= LARGEST_COEFFICIENT as u64
 }

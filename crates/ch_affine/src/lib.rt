@@ -5,7 +5,11 @@
 mod aff;
 mod boxed;
 mod combination;
+mod copies;
+pub mod extremes;
+mod limits;
 mod list;
+mod negation;
 mod system;
 #[cfg(test)]
 mod tests;
@@ -15,6 +19,9 @@ pub mod wide;
 pub use aff::Aff;
 pub use boxed::Boxed;
 pub use combination::{AffError, combine};
+pub use copies::copied_forms;
+pub use limits::{LARGEST_COEFFICIENT, LARGEST_END, MOST_VARIABLES};
 pub use list::List;
+pub use negation::negatives;
 pub use system::{Range, System, all_hold};
 pub use text::Text;

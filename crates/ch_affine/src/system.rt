@@ -4,6 +4,7 @@ ghost use Rattle.ch_affine.specs.Affine.{IsAtMost};
 ghost use Rattle.ch_affine.specs.Rows.{IsBox, IsSystem, system, holds, lies_in, all_hold};
 
 use crate::aff::Aff;
+use crate::limits::{LARGEST_END, MOST_VARIABLES};
 use crate::list::List;
 use std::marker::Model;
 
@@ -41,7 +42,7 @@ impl System {
         ensures fits { IsSome result ↔ IsSystem (system vars rows boxes) }
         ensures value { IfSome result (λ s. s ≡ system vars rows boxes) }
     {
-        let fits = vars <= 4096
+        let fits = vars <= MOST_VARIABLES
             && boxes.len() == vars as usize
             && all_of_length(rows.as_slice(), vars as usize)
             && all_boxes(boxes.as_slice());
@@ -110,5 +111,5 @@ fn all_boxes(boxes: &[Range]) -> bool
 fn is_box(range: Range) -> bool
     ensures { IsTrue result ↔ IsBox range }
 {
-    range.low <= range.high && range.low >= -(1 << 54) && range.high <= 1 << 54
+    range.low <= range.high && range.low >= -LARGEST_END && range.high <= LARGEST_END
 }
