@@ -1,19 +1,19 @@
 -- From what a search says of a form's values to the greatest and the least of them.
-use Rattle.std.proofs.Common.{◌≡◌, ◌*◌, ◌^◌, ◌<◌, ◌≤◌, ◌⊎◌, inl, inr, ℤ, pos, ◌+ℤ◌, ◌-ℤ◌, ◌*ℤ◌, int_lt, int_eq, MatchOption, ◌≤ℤ◌, neg_ℤ, unsigned_abs, true, false, cond, List, [], ◌∷◌, length, map, Option, Some, None, get_or, refl, sym, ap, ◌∙◌, arith}
+use Rattle.std.proofs.Common.{◌≡◌, ◌*◌, ◌^◌, ◌<◌, ◌≤◌, ◌⊎◌, inl, inr, ℤ, pos, ◌-ℤ◌, ◌*ℤ◌, int_lt, int_eq, MatchOption, ◌≤ℤ◌, neg_ℤ, unsigned_abs, true, false, cond, List, [], ◌∷◌, length, map, Option, Some, None, refl, sym, ap, ◌∙◌, arith}
 use Rattle.std.specs.List.{All, filter, fold}
 use Rattle.std.specs.Int.{int_max, int_min}
 use Rattle.std.proofs.lemmas.Int.{ints, clamps, by_lt_z, unsigned_abs-mul}
-use Rattle.std.proofs.lemmas.List.{length-map}
-use Rattle.std.proofs.lemmas.List.Elements.{All-nil, All-cons, All-head, All-tail, All-map, All-from_get_or}
+use Rattle.std.proofs.lemmas.List.Elements.{All-nil, All-cons, All-head, All-tail, All-from_get_or}
 use Rattle.std.proofs.Math.Nat.{mul-le-mul}
 use Rattle.ch_affine.specs.Form.{Form}
+use Rattle.ch_affine.specs.Negatives.{negative}
+use Rattle.ch_affine.proofs.Negated.{value_negative}
 use Rattle.ch_affine.specs.Affine.{IsAtMost, IsSmall, dot, value}
 use Rattle.ch_affine.specs.Rows.{Rows, all_hold}
 use Rattle.ch_poly.specs.Boxes.{at, greatest, Within, IsBoxed}
 use Rattle.ch_poly.specs.Goals.{Reaches, Meets, IsEmpty}
 use Rattle.ch_poly.specs.Points.{points, box_points, least_of, greatest_of}
-use Rattle.ch_poly.specs.Extremes.{HasValue, IsBelow, IsGreatest, negated}
-use Rattle.ch_poly.proofs.Contradicts.{neg_times}
+use Rattle.ch_poly.specs.Extremes.{HasValue, IsBelow, IsGreatest}
 use Rattle.ch_poly.proofs.Fixes.{filter_twice, split_true, same_ints, ints_same}
 use Rattle.ch_poly.proofs.Peaks.{dot_le}
 use Rattle.ch_poly.proofs.Ranges.{in_each}
@@ -118,31 +118,12 @@ pub greatest_answer : (s : Rows) (f : Form) (r : Option ℤ)
 greatest_answer s f None e = no_greatest s f e
 greatest_answer s f (Some v) g = sym (greatest_is_of v (map (value f) (points s)) (under_points s f v g.below) (some_point s f v g.has))
 
--- the form with all signs turned
-dot_negated : (cs p : List ℤ) → dot (map neg_ℤ cs) p +ℤ dot cs p ≡ pos 0
-dot_negated [] p = refl
-dot_negated (c ∷ cs) [] = refl
-dot_negated (c ∷ cs) (x ∷ p) = omega (arith, ints, neg_times c x, dot_negated cs p)
-
-value_negated : (f : Form) (p : List ℤ) → value (negated f) p ≡ neg_ℤ (value f p)
-value_negated f p = omega (arith, ints, dot_negated f.coefs p)
-
-pub least_answer : (s : Rows) (f : Form) (v : ℤ) → IsGreatest (Reaches (pos 0) s.rows) (negated f) v (lows_of s.boxes) (highs_of s.boxes)
+pub least_answer : (s : Rows) (f : Form) (v : ℤ) → IsGreatest (Reaches (pos 0) s.rows) (negative f) v (lows_of s.boxes) (highs_of s.boxes)
     → Some (neg_ℤ v) ≡ least_of (map (value f) (points s))
 least_answer s f v g =
     sym (least_is_of (neg_ℤ v) (map (value f) (points s))
-    (over_points s f (neg_ℤ v) (λ p w h. omega (arith, ints, value_negated f p, g.below.each p w h)))
-    (some_point s f (neg_ℤ v) (record { point = g.has.point; within = g.has.within; holds = g.has.holds; is = omega (arith, ints, value_negated f g.has.point, g.has.is) })))
-
-small_opposite : (z : ℤ) → IsAtMost (2 ^ 60) z → IsAtMost (2 ^ 60) (neg_ℤ z)
-small_opposite z h = omega (arith, ints, h)
-
-pub small_negated : (f : Form) → IsSmall f → IsSmall (negated f)
-small_negated f s = record {
-  few = rw length-map s.few;
-  coefs = All-map (IsAtMost (2 ^ 60)) neg_ℤ f.coefs (λ k d lt. small_opposite (get_or f.coefs k d) (s.coefs k d lt));
-  constant = small_opposite f.constant s.constant;
-}
+    (over_points s f (neg_ℤ v) (λ p w h. omega (arith, ints, value_negative f p, g.below.each p w h)))
+    (some_point s f (neg_ℤ v) (record { point = g.has.point; within = g.has.within; holds = g.has.holds; is = omega (arith, ints, value_negative f g.has.point, g.has.is) })))
 
 -- how large a value can be
 pub small_point : (lows highs p : List ℤ) → IsBoxed lows highs → Within lows highs p → All (IsAtMost (2 ^ 54)) p

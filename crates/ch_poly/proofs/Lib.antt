@@ -1,10 +1,15 @@
 pub mod Bounds
 pub mod Contradicts
 pub mod Cuts
+pub mod Divides
+pub mod Equal
 pub mod Extreme
 pub mod Firsts
 pub mod Fixes
+pub mod Hollows
 pub mod Least
+pub mod Lows
 pub mod Meeting
+pub mod Mixed
 pub mod Peaks
 pub mod Ranges

@@ -1,5 +1,5 @@
 -- The greatest value of a form over the points of a box that have a property.
-use Rattle.std.specs.Prelude.{ℤ, neg_ℤ, ◌≡◌, ◌≤ℤ◌, List, map}
+use Rattle.std.specs.Prelude.{ℤ, ◌≡◌, ◌≤ℤ◌, List}
 use Rattle.ch_affine.specs.Form.{Form}
 use Rattle.ch_affine.specs.Affine.{value}
 use Rattle.ch_poly.specs.Boxes.{Within}
@@ -18,7 +18,3 @@ pub record IsBelow (P : List ℤ → Type 0) (f : Form) (v : ℤ) (lows highs : 
 pub record IsGreatest (P : List ℤ → Type 0) (f : Form) (v : ℤ) (lows highs : List ℤ) : Type 0 where
   pub has : HasValue P f v lows highs
   pub below : IsBelow P f v lows highs
-
--- the form whose values are the other's negatives
-abbrev pub negated : Form → Form
-negated f = record { coefs = map neg_ℤ f.coefs; constant = neg_ℤ f.constant }

@@ -1,8 +1,8 @@
-ghost use Rattle.std.specs.Prelude.{◌≡◌, ◌≤◌, ◌<◌, ◌^◌, ◌*◌, ◌<ℤ◌, ◌≤ℤ◌, pos, neg_ℤ, [], List, length, map, unsigned_abs, IfOk, MatchOption};
+ghost use Rattle.std.specs.Prelude.{◌≡◌, ◌≤◌, ◌<◌, ◌^◌, ◌*◌, ◌<ℤ◌, ◌≤ℤ◌, pos, neg_ℤ, length, map, unsigned_abs, IfOk, MatchOption};
 ghost use Rattle.std.specs.List.{All};
-ghost use Rattle.ch_affine.specs.Affine.{IsAtMost, IsSmall, value};
+ghost use Rattle.ch_affine.specs.Affine.{value};
 ghost use Rattle.ch_poly.specs.Boxes.{IsBoxed};
-ghost use Rattle.ch_poly.specs.Extremes.{HasValue, IsGreatest, negated};
+ghost use Rattle.ch_poly.specs.Extremes.{HasValue, IsGreatest};
 ghost use Rattle.ch_poly.specs.Goals.{Reaches, Meets, IsEmpty};
 ghost use Rattle.ch_poly.specs.Points.{points, greatest_of, least_of};
 
@@ -11,7 +11,8 @@ use crate::opposed::any_opposed;
 use crate::peak::greatest;
 use crate::room::write_box;
 use crate::search::search;
-use ch_affine::{Aff, List, Range, System};
+use crate::simplex::space_len;
+use ch_affine::{Aff, Range, System};
 use std::alloc::{AllocError, Global};
 use std::slice;
 
@@ -30,6 +31,7 @@ pub fn greatest_value(alloc: Global, s: &System, form: &Aff) -> Result<Option<i1
     let mut lows = vec![in alloc; 0i64; count]?;
     let mut highs = vec![in alloc; 0i64; count]?;
     let mut room = vec![in alloc; 0i64; 2 * count * count]?;
+    let mut space = vec![in alloc; 0i64; space_len(count, rows.len())]?;
     Ok(greatest_in(
         rows,
         boxes,
@@ -37,6 +39,7 @@ pub fn greatest_value(alloc: Global, s: &System, form: &Aff) -> Result<Option<i1
         lows.as_mut_slice(),
         highs.as_mut_slice(),
         room.as_mut_slice(),
+        space.as_mut_slice(),
     ))
 }
 
@@ -50,11 +53,12 @@ pub fn least_value(alloc: Global, s: &System, form: &Aff) -> Result<Option<i128>
     if any_opposed(rows) {
         return Ok(None);
     }
-    let turned = negative(alloc, form)?;
+    let turned = form.negative(alloc)?;
     let count = boxes.len();
     let mut lows = vec![in alloc; 0i64; count]?;
     let mut highs = vec![in alloc; 0i64; count]?;
     let mut room = vec![in alloc; 0i64; 2 * count * count]?;
+    let mut space = vec![in alloc; 0i64; space_len(count, rows.len())]?;
     match greatest_in(
         rows,
         boxes,
@@ -62,6 +66,7 @@ pub fn least_value(alloc: Global, s: &System, form: &Aff) -> Result<Option<i128>
         lows.as_mut_slice(),
         highs.as_mut_slice(),
         room.as_mut_slice(),
+        space.as_mut_slice(),
     ) {
         None => Ok(None),
         Some(value) => Ok(Some(opposite(value))),
@@ -76,6 +81,7 @@ fn greatest_in(
     lows: &mut [i64],
     highs: &mut [i64],
     room: &mut [i64],
+    space: &mut [i64],
 ) -> Option<i128>
     requires same_rows { All (λ f. length f.coefs ≡ length boxes.now) rows.now }
     requires same_form { length form.now.coefs ≡ length boxes.now }
@@ -92,7 +98,7 @@ fn greatest_in(
         tops: &[],
         bound: 0,
     };
-    let Some(mut low) = value_found(&anywhere, form, lows, highs, room) else {
+    let Some(mut low) = value_found(&anywhere, form, lows, highs, room, space) else {
         return None;
     };
     while low < high {
@@ -103,7 +109,7 @@ fn greatest_in(
             tops: slice::from_ref(form),
             bound: middle,
         };
-        match value_found(&above, form, lows, highs, room) {
+        match value_found(&above, form, lows, highs, room, space) {
             Some(value) => low = value,
             None => high = middle - 1,
         }
@@ -118,6 +124,7 @@ fn value_found(
     lows: &mut [i64],
     highs: &mut [i64],
     room: &mut [i64],
+    space: &mut [i64],
 ) -> Option<i128>
     requires same_rows { All (λ f. length f.coefs ≡ length lows.old) goal.now.rows.now }
     requires same_tops { All (λ f. length f.coefs ≡ length lows.old) goal.now.tops.now }
@@ -126,7 +133,7 @@ fn value_found(
     requires room { 2 * length lows.old * length lows.old ≤ length room.old }
     ensures { MatchOption result (IsEmpty (Meets goal.now.rows.now goal.now.tops.now goal.now.bound) lows.old highs.old) (λ v. HasValue (Meets goal.now.rows.now goal.now.tops.now goal.now.bound) form.now v lows.old highs.old) }
 {
-    if search(goal, 0, lows, highs, room) {
+    if search(goal, 0, lows, highs, room, space) {
         Some(form.value(lows))
     } else {
         None
@@ -149,26 +156,4 @@ fn opposite(value: i128) -> i128
     ensures { result ≡ neg_ℤ value }
 {
     -value
-}
-
-fn negative(alloc: Global, form: &Aff) -> Result<Aff, AllocError>
-    ensures value { IfOk result (λ f. f ≡ negated form.now) }
-    ensures small { IfOk result IsSmall }
-{
-    let coefs = negatives(alloc, form.coefs.as_slice())?;
-    Ok(Aff {
-        coefs,
-        constant: -form.constant,
-    })
-}
-
-fn negatives(alloc: Global, numbers: &[i64]) -> Result<List<i64>, AllocError>
-    requires { All (IsAtMost (2 ^ 60)) numbers.now }
-    ensures { IfOk result (λ l. l ≡ map neg_ℤ numbers.now) }
-{
-    let mut found = List::with_capacity(alloc, numbers.len())?;
-    for number in numbers {
-        found.push(-*number)?;
-    }
-    Ok(found)
 }

@@ -1,7 +1,7 @@
-ghost use Rattle.std.specs.Prelude.{◌≡◌, ◌<◌, ◌+ℤ◌, ◌<ℤ◌, ℕ, pos, neg_ℤ, length, IsTrue};
-ghost use Rattle.ch_poly.specs.Boxes.{at};
+ghost use Rattle.std.specs.Prelude.{◌+ℤ◌, ◌<ℤ◌, pos, IsTrue};
 ghost use Rattle.ch_poly.specs.Opposed.{IsOpposed, IsNever};
 
+use crate::negative::are_negative;
 use ch_affine::Aff;
 
 /// Whether two of the rows contradict each other at each point: their sum is a constant below 0. Without this test the
@@ -24,29 +24,11 @@ fn oppose(f: &Aff, g: &Aff) -> bool
 {
     let a = f.coefs.as_slice();
     let b = g.coefs.as_slice();
-    a.len() == b.len() && is_below(f.constant, g.constant) && are_negatives(a, b)
+    is_below(f.constant, g.constant) && are_negative(a, b)
 }
 
 fn is_below(x: i64, y: i64) -> bool
     ensures { IsTrue result → (x +ℤ y) <ℤ pos 0 }
 {
     x as i128 + (y as i128) < 0
-}
-
-fn are_negatives(a: &[i64], b: &[i64]) -> bool
-    requires same { length a.now ≡ length b.now }
-    ensures { IsTrue result → (k : ℕ) → k < length a.now → at a.now k ≡ neg_ℤ (at b.now k) }
-{
-    for k in 0..a.len() {
-        if !is_negative_of(a[k], b[k]) {
-            return false;
-        }
-    }
-    true
-}
-
-fn is_negative_of(x: i64, y: i64) -> bool
-    ensures { IsTrue result → x ≡ neg_ℤ y }
-{
-    x as i128 == -(y as i128)
 }

@@ -8,6 +8,7 @@ ghost use Rattle.ch_poly.specs.Rooms.{Size};
 use crate::goal::Goal;
 use crate::opposed::any_opposed;
 use crate::search::search;
+use crate::simplex::space_len;
 use ch_affine::{Aff, Range, System};
 use std::alloc::{AllocError, Global};
 use std::marker::Model;
@@ -20,6 +21,7 @@ pub struct Room {
     lows: Vec<i64>,
     highs: Vec<i64>,
     others: Vec<i64>,
+    space: Vec<i64>,
     rows: u32,
 }
 
@@ -35,22 +37,24 @@ impl Model for Room {
 }
 
 impl Room {
-    /// More than 2^20 variables are refused as want of memory; a system has at most 4,096.
+    /// Room for systems of at most so many variables and rows.
     pub fn of(alloc: Global, vars: u32, rows: u32) -> Result<Room, AllocError>
         ensures vars { IfOk result (λ r. r.vars ≡ vars) }
         ensures rows { IfOk result (λ r. r.rows ≡ rows) }
     {
         let count = vars as usize;
-        if count > 1 << 20 {
-            return Err(AllocError);
-        }
         let lows = vec![in alloc; 0i64; count]?;
         let highs = vec![in alloc; 0i64; count]?;
-        let others = vec![in alloc; 0i64; 2 * count * count]?;
+        // In two halves, since twice the square might pass `usize`, and want of memory is then told by the allocator.
+        let half = vec![in alloc; 0i64; count * count]?;
+        let mut others = vec![in alloc; 0i64; count * count]?;
+        others.extend_from_slice(half.as_slice())?;
+        let space = vec![in alloc; 0i64; space_len(count, rows as usize)]?;
         Ok(Room {
             lows,
             highs,
             others,
+            space,
             rows,
         })
     }
@@ -69,7 +73,8 @@ pub fn has_point(s: &System, fixed: &[i64], room: &mut Room) -> bool
     let lows = room.lows.as_mut_slice();
     let highs = room.highs.as_mut_slice();
     let others = room.others.as_mut_slice();
-    solve_in(rows, boxes, fixed, lows, highs, others)
+    let space = room.space.as_mut_slice();
+    solve_in(rows, boxes, fixed, lows, highs, others, space)
 }
 
 fn solve_in(
@@ -79,6 +84,7 @@ fn solve_in(
     lows: &mut [i64],
     highs: &mut [i64],
     others: &mut [i64],
+    space: &mut [i64],
 ) -> bool
     requires same { All (λ f. length f.coefs ≡ length boxes.now) rows.now }
     requires boxed { IsBoxed (map (λ b. b.low) boxes.now) (map (λ b. b.high) boxes.now) }
@@ -104,7 +110,7 @@ fn solve_in(
         tops: &[],
         bound: 0,
     };
-    search(&goal, 0, lows, highs, others)
+    search(&goal, 0, lows, highs, others, space)
 }
 
 /// Fixes the first variables. False where a value is outside its range.

@@ -5,7 +5,7 @@ ghost use Rattle.ch_poly.specs.Boxes.{IsBoxed, at};
 ghost use Rattle.ch_poly.specs.Goals.{Meets, IsEmpty, IsLeast};
 
 use crate::goal::{Goal, reach};
-use crate::narrow::narrow;
+use crate::tighten::tighten;
 
 /// Whether the point meets the goal.
 fn holds(goal: &Goal, point: &[i64]) -> bool
@@ -19,7 +19,7 @@ fn holds(goal: &Goal, point: &[i64]) -> bool
 }
 
 /// The first variable from `from` on whose range has more than one number, or their number.
-fn first_open(lows: &[i64], highs: &[i64], from: usize) -> usize
+pub fn first_open(lows: &[i64], highs: &[i64], from: usize) -> usize
     requires same { length highs.now ≡ length lows.now }
     requires from { from ≤ length lows.now }
     ensures within { result ≤ length lows.now }
@@ -36,7 +36,7 @@ fn first_open(lows: &[i64], highs: &[i64], from: usize) -> usize
 }
 
 /// Raises a number by one.
-fn one_more(x: i64) -> i64
+pub fn one_more(x: i64) -> i64
     requires { IsAtMost (2 ^ 54) x }
     ensures { result ≡ x +ℤ pos 1 }
 {
@@ -67,6 +67,7 @@ pub fn search(
     lows: &mut [i64],
     highs: &mut [i64],
     room: &mut [i64],
+    space: &mut [i64],
 ) -> bool
     requires same_rows { All (λ f. length f.coefs ≡ length lows.old) goal.now.rows.now }
     requires same_tops { All (λ f. length f.coefs ≡ length lows.old) goal.now.tops.now }
@@ -79,7 +80,7 @@ pub fn search(
 {
     let count = lows.len();
     loop {
-        if !narrow(goal, lows, highs) {
+        if !tighten(goal, from, lows, highs, space) {
             return false;
         }
         let k = first_open(lows, highs, from);
@@ -89,7 +90,7 @@ pub fn search(
         let (low_room, others) = room.split_at_mut(count);
         let (high_room, rest) = others.split_at_mut(count);
         enter(lows, highs, k, low_room, high_room);
-        if search(goal, k + 1, low_room, high_room, rest) {
+        if search(goal, k + 1, low_room, high_room, rest, space) {
             lows.copy_from_slice(low_room);
             return true;
         }

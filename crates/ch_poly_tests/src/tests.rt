@@ -3,7 +3,7 @@
 ghost use Rattle.std.specs.Prelude.{◌≡◌, ◌≤◌, length};
 
 use ch_affine::{Aff, List, Range, System};
-use ch_poly::{Room, greatest_value, has_point, least_point, least_value};
+use ch_poly::{Excluded, Room, excluded, greatest_value, has_point, least_point, least_value};
 use std::alloc::{AllocError, Global};
 use std::process::Abort;
 use std::test::Fail;
@@ -11,6 +11,8 @@ use std::test::Fail;
 const LARGE: i64 = 1 << 60;
 
 const FAR: i64 = 1 << 54;
+
+const WIDE: i64 = 1 << 40;
 
 /// A form, its constant last.
 fn form(alloc: Global, numbers: &[i64]) -> Result<Option<Aff>, AllocError> {
@@ -191,28 +193,10 @@ fn rows_without_an_integer_point_agree_with_enumeration(rt: HostRuntime) -> Resu
 }
 
 #[test]
-fn a_diagonal_agrees_with_enumeration(rt: HostRuntime) -> Result<(), Fail> {
-    agrees(&rt, rt.alloc(), &[&[1, -1, 0], &[-1, 1, 0]], &[-1, 3, -7])
-}
-
-#[test]
 fn systems_without_variables_have_one_point_or_none(rt: HostRuntime) -> Result<(), Fail> {
     let alloc = rt.alloc();
     case(&rt, alloc, &[], &[], &[7], Some(&[]), Some((7, 7)))?;
     case(&rt, alloc, &[], &[&[-1]], &[7], None, None)
-}
-
-#[test]
-fn a_box_of_one_point_is_that_point(rt: HostRuntime) -> Result<(), Fail> {
-    case(
-        &rt,
-        rt.alloc(),
-        &[(5, 5)],
-        &[],
-        &[2, 1],
-        Some(&[5]),
-        Some((11, 11)),
-    )
 }
 
 #[test]
@@ -258,4 +242,85 @@ fn opposed_rows_are_seen_before_the_walk(rt: HostRuntime) -> Result<(), Fail> {
         None,
         None,
     )
+}
+
+fn excludes(
+    rt: &impl Abort,
+    alloc: Global,
+    ranges: &[(i64, i64)],
+    rows: &[&[i64]],
+    wanted: Option<Excluded>,
+) -> Result<(), Fail> {
+    let system = system(alloc, ranges, rows)?.ok_or("a system")?;
+    assert_eq!(rt; excluded(&system), wanted);
+    Ok(())
+}
+
+#[test]
+fn the_least_row_that_a_divisor_refutes_comes_first(rt: HostRuntime) -> Result<(), Fail> {
+    let alloc = rt.alloc();
+    let one = [(0, 9)];
+    let two = [(0, 9), (0, 9)];
+    let gcd = |row: usize| Some(Excluded::Gcd { row });
+    excludes(&rt, alloc, &two, &[&[2, -2, -1], &[-2, 2, 1]], gcd(0))?;
+    excludes(&rt, alloc, &two, &[&[2, -2, -4], &[-2, 2, 4]], None)?;
+    // the divisor of no coefficient but 0 is 0, which divides 0 alone
+    excludes(&rt, alloc, &one, &[&[0, 3], &[0, -3]], gcd(0))?;
+    excludes(&rt, alloc, &one, &[&[0, 0], &[0, 0]], None)?;
+    let rows: [&[i64]; 3] = [&[1, 0, -20], &[3, 6, 1], &[-3, -6, -1]];
+    excludes(&rt, alloc, &two, &rows, gcd(1))
+}
+
+#[test]
+fn the_least_row_below_0_in_the_box_comes_then(rt: HostRuntime) -> Result<(), Fail> {
+    let alloc = rt.alloc();
+    let one = [(0, 9)];
+    let range = |row: usize| Some(Excluded::Range { row });
+    excludes(&rt, alloc, &one, &[&[1, -20]], range(0))?;
+    excludes(
+        &rt,
+        alloc,
+        &one,
+        &[&[1, -9], &[-1, -1], &[1, -20]],
+        range(1),
+    )?;
+    excludes(&rt, alloc, &one, &[&[1, -9], &[-1, 0]], None)?;
+    excludes(&rt, alloc, &[], &[&[-1]], range(0))?;
+    excludes(&rt, alloc, &[], &[], None)
+}
+
+#[test]
+fn equalities_that_only_elimination_refutes_have_no_point(rt: HostRuntime) -> Result<(), Fail> {
+    let far = (-WIDE, WIDE);
+    // x + y is even and x - y odd
+    let rows: [&[i64]; 4] = [
+        &[1, 1, -2, 0],
+        &[-1, -1, 2, 0],
+        &[1, -1, 0, -1],
+        &[-1, 1, 0, 1],
+    ];
+    let form = [1, 0, 0, 0];
+    case(&rt, rt.alloc(), &[far, far, far], &rows, &form, None, None)
+}
+
+#[test]
+fn rows_over_a_wide_box_need_no_walk(rt: HostRuntime) -> Result<(), Fail> {
+    let alloc = rt.alloc();
+    let far = (-WIDE, WIDE);
+    let rows: [&[i64]; 8] = [
+        &[4, 8, 4, -7, -2959042001541],
+        &[3, 6, 2, -1, 1933733817745],
+        &[-4, 9, 6, -8, -5730226308126],
+        &[2, -5, -3, 7, 5652818571726],
+        &[-4, 0, 7, -4, -4791387818633],
+        &[0, -8, 9, 0, -2382522797563],
+        &[2, -4, -1, 0, -837337047360],
+        &[-3, 1, 5, 3, 2648260667577],
+    ];
+    let system = system(alloc, &[far, far, far, far], &rows)?.ok_or("a system")?;
+    let point = least_point(alloc, &system)?.ok_or("a point")?;
+    // each smaller value leaves no rational point, by Fourier and Motzkin's elimination
+    let wanted = [-312086892214, -640255614892, 1099511627775, -704483996919];
+    assert!(rt; point.as_slice() == wanted.as_slice());
+    Ok(())
 }

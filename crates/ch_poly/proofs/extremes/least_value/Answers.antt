@@ -1,6 +1,7 @@
 use Rattle.std.proofs.Common.{ℤ, Some, ap, refl, ◌∙◌, rules, SFits}
 use Rattle.std.specs.Int.{w128}
 use Rattle.std.proofs.lemmas.Int.{to_z-of_z}
+use Rattle.ch_affine.specs.Affine.{IsSmall}
 use Rattle.ch_affine.specs.Rows.{Rows, IsSystem}
 use Rattle.ch_poly.specs.Opposed.{IsNever}
 use Rattle.ch_poly.proofs.Extreme.{no_least, least_answer, value_bound}
@@ -31,7 +32,8 @@ opposite-requires c =
     let i : IsSystem c.args.s.now = rw c.s.view_is at c.s.invariant in
     let v : SFits w128 c.in-Some.value = search rules in
     let g = rw boxes at c.in-Some.ensures in
-    simp to_z-of_z (value_bound _ _ _ _ _ c.in_ok-turned.ensures.small (boxes_boxed c.args.s.now i) g.has)
+    let small : IsSmall c.in_ok-turned.turned = search rules in
+    simp to_z-of_z (value_bound _ _ _ _ _ small (boxes_boxed c.args.s.now i) g.has)
 
 pub returns : goal.returns
 returns c =
@@ -39,6 +41,6 @@ returns c =
     let rows = c.as_slice-rows.ensures ∙ ap (λ (r : Rows). r.rows) c.s.view_is in
     let v : SFits w128 c.in-Some.value = search rules in
     let o : SFits w128 c.opposite.result = search rules in
-    let g = rw (rows, boxes, c.in_ok-turned.ensures.value) at c.in-Some.ensures in
+    let g = rw (rows, boxes, c.in_ok-turned.ensures) at c.in-Some.ensures in
     let turned = simp to_z-of_z at c.opposite.ensures in
     simp to_z-of_z (ap (λ (z : ℤ). Some z) turned ∙ least_answer c.args.s.now c.args.form.now c.in-Some.value g)
