@@ -1,38 +1,34 @@
 -- Flattened items have the meaning of the items that they were made from.
-use Rattle.std.proofs.Common.{◌≡◌, ℕ, zero, suc, ◌+◌, ◌*◌, ◌<◌, ◌≤◌, ◌^◌, ℤ, pos, ◌+ℤ◌, ◌*ℤ◌, ◌≤ℤ◌, unsigned_abs, Bool, true, false, ◌&&◌, ◌||◌, nat_lt, nat_eq, List, [], ◌∷◌, ◌++◌, map, set, get_or, take, drop, length, length-append, arith, ap, sym, subst, ◌∙◌, refl, w64}
+use Rattle.std.proofs.Common.{◌≡◌, ℕ, ◌+◌, ◌<◌, ◌≤◌, ◌^◌, ℤ, pos, ◌+ℤ◌, ◌≤ℤ◌, unsigned_abs, Bool, true, false, ◌&&◌, nat_lt, nat_eq, int_le, if◌then◌else◌, List, [], ◌∷◌, ◌++◌, map, set, get_or, take, drop, length, length-append, arith, ap, sym, subst, ◌∙◌, refl}
 use Rattle.std.specs.Bool.{IsTrue}
-use Rattle.std.specs.Int.{int_wrap}
-use Rattle.std.specs.List.{All, list_all}
-use Rattle.std.proofs.Math.Nat.{mul-le-mul_left, mul-le-mul_right}
-use Rattle.std.proofs.lemmas.Bool.{and_parts, eqb-true, leb-true}
-use Rattle.std.proofs.lemmas.Int.{ints, int_wrap_fits, fits_signed_from_abs, unsigned_abs-mul}
+use Rattle.std.specs.List.{list_all}
+use Rattle.std.proofs.lemmas.Bool.{and_parts, eqb-true, le-leb}
+use Rattle.std.proofs.lemmas.Int.{ints}
 use Rattle.std.proofs.lemmas.List.{length-take-le, take_at, take_more, take_more_set, length-set}
-use Rattle.std.proofs.lemmas.List.Elements.{All-head, All-tail, All-nil, All-cons}
-use Rattle.ch_affine.specs.Affine.{dot, value, IsAtMost}
+use Rattle.ch_affine.specs.Affine.{value}
 use Rattle.ch_affine.specs.Form.{Form}
-use Rattle.ch_affine.specs.Rows.{lies_in}
-use Rattle.ch_affine.specs.declared.system.Range.{Range}
 use Rattle.ch_nest.specs.declared.nest.ArrayDecl.{ArrayDecl}
 use Rattle.ch_nest.specs.declared.nest.Body.{Body}
 use Rattle.ch_nest.specs.declared.nest.Item.{Item}
-use Rattle.ch_nest.specs.declared.nest.Item.TheVariants.{Loop, Assign}
+use Rattle.ch_nest.specs.declared.nest.Item.TheVariants.{Loop, If, Assign}
 use Rattle.ch_nest.specs.declared.nest.Item.TheOpen.{Item-F}
 use Rattle.ch_nest.specs.declared.flat.FlatExpr.{FlatExpr}
 use Rattle.ch_nest.specs.declared.flat.FlatItem.{FlatItem}
 use Rattle.ch_nest.specs.declared.flat.FlatItem.TheVariants as flat
+use Rattle.ch_nest.specs.Arrays.{extents_of}
 use Rattle.ch_nest.specs.At.{AreAt}
-use Rattle.ch_nest.specs.Fast.{AreFlat, FitBelow, FitsBelow, IsFlatExpr, IsFlatItem, IsFlatPlace, flat_low, flat_high, run_flat, run_flats, wrapped}
+use Rattle.ch_nest.specs.Fast.{AreFlat, FitBelow, FitsBelow, IsFlatExpr, IsFlatItem, IsFlatPlace, near, run_flat, run_flats}
 use Rattle.ch_nest.specs.LoopNest.{LoopNest}
 use Rattle.ch_nest.specs.Limits.{most_affine}
-use Rattle.ch_nest.specs.Run.{count, expr_value, greatest, high_of, least, low_of, place, run, run_item, run_items, turns}
-use Rattle.ch_nest.specs.Shape.{IsSmall, are_few, box_of, body_fits, coefs_fit, constant_fits, head_fits, highs_fit, is_at_most, is_nest, is_small, item_fits, item_fits_step, items_fit, lows_fit, raised_fits}
+use Rattle.ch_nest.specs.Run.{expr_value, greatest, high_of, is_met, least, loop_values, low_of, place, run, run_item, run_items, turns}
+use Rattle.ch_nest.specs.Shape.{body_fits, box_of, coefs_fit, head_fits, is_at_most, is_nest, is_small, item_fits, item_fits_step, items_fit, row_fits}
 use Rattle.ch_nest.specs.Sound.{item_inside, items_inside}
-use Rattle.ch_nest.proofs.Corners.{LiesFirst, lies_first}
-use Rattle.ch_nest.proofs.Fits.{head_lows, head_highs, loop_fits_is}
+use Rattle.ch_nest.proofs.Fits.{head_lows, head_highs, if_fit, loop_fits_is}
 use Rattle.ch_nest.proofs.Flattens.{dot_take}
-use Rattle.ch_nest.proofs.FlatRuns.{flat_assign_is, flat_loop_is}
-use Rattle.ch_nest.proofs.Runs.{nest_at, reads_inside, run_assign, run_loop_is, turn_inside, write_inside}
-use Rattle.ch_nest.proofs.Turns.{LoopAt, assign_fits_is, fit_at, loop_at, turn_at}
+use Rattle.ch_nest.proofs.FlatRuns.{flat_assign_is, flat_if_is, flat_loop_is}
+use Rattle.ch_nest.proofs.Runs.{loop_inside, met_inside, nest_at, reads_inside, run_assign, run_loop_is, run_met, run_unmet, write_inside}
+use Rattle.ch_nest.proofs.Turns.{assign_fits_is, fit_at, if_at, loop_at, row_at, turn_at, value_small}
+use Rattle.ch_nest.proofs.Values.{each_value}
 
 pub body_below : (arrays : List ArrayDecl) (item : Item) (d label : ℕ) (body : Body) → item ≡ Assign label body → FitsBelow arrays item d → IsTrue (body_fits arrays d body)
 body_below arrays item d label body is b =
@@ -40,17 +36,17 @@ body_below arrays item d label body is b =
     let g : IsTrue (body_fits arrays (length b.boxes) body) = rw (assign_fits_is arrays label body b.boxes) at f in
     let h = rw b.loops at g in h
 
-pub record LoopBelow (arrays : List ArrayDecl) (lows highs : List Form) (items : List Item) (d : ℕ) : Type 0 where
-  pub head : head_fits d lows highs ≡ true
+pub record LoopBelow (arrays : List ArrayDecl) (lows highs : List Form) (step : ℕ) (items : List Item) (d : ℕ) : Type 0 where
+  pub head : head_fits d lows highs step ≡ true
   pub inner : FitBelow arrays items (d + 1)
 
-pub loop_below : (arrays : List ArrayDecl) (item : Item) (d : ℕ) (lows highs : List Form) (items : List Item) → item ≡ Loop lows highs items → FitsBelow arrays item d
-    → LoopBelow arrays lows highs items d
-loop_below arrays item d lows highs items is b =
-    let f : IsTrue (item_fits arrays (Loop lows highs items) b.boxes) = rw is at b.fit in
-    let g : IsTrue (item_fits_step arrays (Item-F.Loop lows highs (map (item_fits arrays) items)) b.boxes) = rw (loop_fits_is arrays lows highs items b.boxes) at f in
-    let here : IsTrue (head_fits (length b.boxes) lows highs && nat_lt 0 (length (map (item_fits arrays) items))) = (and_parts _ _ g).0 in
-    let head : head_fits (length b.boxes) lows highs ≡ true = (and_parts _ _ here).0 in
+pub loop_below : (arrays : List ArrayDecl) (item : Item) (d : ℕ) (lows highs : List Form) (step : ℕ) (items : List Item) → item ≡ Loop lows highs step items → FitsBelow arrays item d
+    → LoopBelow arrays lows highs step items d
+loop_below arrays item d lows highs step items is b =
+    let f : IsTrue (item_fits arrays (Loop lows highs step items) b.boxes) = rw is at b.fit in
+    let g : IsTrue (item_fits_step arrays (Item-F.Loop lows highs step (map (item_fits arrays) items)) b.boxes) = rw (loop_fits_is arrays lows highs step items b.boxes) at f in
+    let here : IsTrue (head_fits (length b.boxes) lows highs step && nat_lt 0 (length (map (item_fits arrays) items))) = (and_parts _ _ g).0 in
+    let head : head_fits (length b.boxes) lows highs step ≡ true = (and_parts _ _ here).0 in
     let below : IsTrue (is_small (box_of b.boxes lows highs) && items_fit arrays items (b.boxes ++ box_of b.boxes lows highs ∷ [])) = (and_parts _ _ g).1 in
     record {
       head = rw (sym b.loops) head;
@@ -68,23 +64,23 @@ pub assign_flat : (arrays : List ArrayDecl) (d : ℕ) (item : Item) (label : ℕ
     → IsFlatPlace arrays d body.write write → IsFlatExpr arrays d body.right right → IsFlatItem arrays d item (flat.Assign write right)
 assign_flat arrays d item label body write right is w r = λ point cells l at i.
     let q : List ℤ = take d point in
-    let a : run_flat (flat.Assign write right) point cells ≡ set cells (place arrays body.write q) (expr_value arrays q cells body.right) =
+    let a : run_flat (flat.Assign write right) point cells ≡ set cells (place (extents_of arrays) body.write q) (expr_value (extents_of arrays) q cells body.right) =
     rw (flat_assign_is write right point cells, w point l (write_inside arrays item label body q is i), r point cells l (reads_inside arrays item label body q is i)) refl in
     run_assign arrays item label body q cells (run_flat (flat.Assign write right) point cells) is a
 
 -- items one after another
 
 pub flats_run : (arrays : List ArrayDecl) (d : ℕ) (items : List Item) (flats : List FlatItem) → AreFlat arrays d items flats → (point cells : List ℤ) → length point ≡ 6
-    → AreAt arrays items (take d point) → IsTrue (items_inside arrays items (take d point)) → run_flats flats point cells ≡ run_items arrays items (take d point) cells
+    → AreAt arrays items (take d point) → IsTrue (items_inside (extents_of arrays) items (take d point)) → run_flats flats point cells ≡ run_items (extents_of arrays) items (take d point) cells
 flats_run arrays d [] [] f point cells l at i = refl
 flats_run arrays d [] (x ∷ xs) f point cells l at i = absurd f
 flats_run arrays d (y ∷ ys) [] f point cells l at i = absurd f
 flats_run arrays d (y ∷ ys) (x ∷ xs) f point cells l at i =
     let fits = and_parts (item_fits arrays y at.boxes) (items_fit arrays ys at.boxes) at.fit in
-    let inside = and_parts (item_inside arrays y (take d point)) (items_inside arrays ys (take d point)) i in
-    let first : run_flat x point cells ≡ run_item arrays y (take d point) cells =
+    let inside = and_parts (item_inside (extents_of arrays) y (take d point)) (items_inside (extents_of arrays) ys (take d point)) i in
+    let first : run_flat x point cells ≡ run_item (extents_of arrays) y (take d point) cells =
     f.0 point cells l (record { boxes = at.boxes; small = at.small; inside = at.inside; fit = fits.0 }) inside.0 in
-    ap (λ c. run_flats xs point c) first ∙ flats_run arrays d ys xs f.1 point (run_item arrays y (take d point) cells) l
+    ap (λ c. run_flats xs point c) first ∙ flats_run arrays d ys xs f.1 point (run_item (extents_of arrays) y (take d point) cells) l
     (record { boxes = at.boxes; small = at.small; inside = at.inside; fit = fits.1 }) inside.1
 
 pub flats_push : (arrays : List ArrayDecl) (d : ℕ) (items : List Item) (flats : List FlatItem) (y : Item) (x : FlatItem) → AreFlat arrays d items flats
@@ -100,123 +96,85 @@ flats_more arrays d items flats next y x k l is f h e =
     let more : take (k + 1) items ≡ take k items ++ y ∷ [] = take_more items k y l ∙ ap (λ z. take k items ++ z ∷ []) (sym is) in
     rw (e, more) (flats_push arrays d (take k items) flats y x f h)
 
--- the ends of a loop do not wrap
+-- forms need a point only as far as the loops around go
 
-dot_small : (cs xs : List ℤ) → IsTrue (list_all (is_at_most most_affine) cs) → All (IsAtMost (2 ^ 30)) xs → unsigned_abs (dot cs xs) ≤ length cs * 2 ^ 60
-dot_small [] xs c s = omega arith
-dot_small (c ∷ cs) [] h s = omega arith
-dot_small (c ∷ cs) (x ∷ xs) h s =
-    let a : unsigned_abs c ≤ 2 ^ 30 = leb-true _ _ ((and_parts _ _ h).0) in
-    let b : unsigned_abs x ≤ 2 ^ 30 = All-head (IsAtMost (2 ^ 30)) x xs s in
-    let p : unsigned_abs (c *ℤ x) ≤ 2 ^ 60 = omega (arith, unsigned_abs-mul c x, mul-le-mul_right (unsigned_abs x) a, mul-le-mul_left (2 ^ 30) b) in
-    omega (arith, ints, p, dot_small cs xs ((and_parts _ _ h).1) (All-tail (IsAtMost (2 ^ 30)) x xs s))
+value_take : (n : ℕ) (f : Form) (point : List ℤ) → length f.coefs ≡ n → value f point ≡ value f (take n point)
+value_take n f point e = ap (λ z. f.constant +ℤ z) (dot_take f.coefs point n (omega arith))
 
-abbrev IsNear : Form → Type 0
-IsNear f = unsigned_abs f.constant ≤ 2 ^ 30 + 1
-
-wrapped_is : (n : ℕ) (f : Form) (point : List ℤ) → n ≤ 6 → IsTrue (coefs_fit n f) → IsNear f → All (IsAtMost (2 ^ 30)) (take n point)
-    → wrapped f point ≡ value f (take n point)
-wrapped_is n f point deep fit near s =
-    let q : List ℤ = take n point in
-    let parts = and_parts (nat_eq (length f.coefs) n) (list_all (is_at_most most_affine) f.coefs) fit in
-    let size : length f.coefs ≡ n = eqb-true (length f.coefs) n parts.0 in
-    let whole : value f point ≡ value f q = ap (λ z. f.constant +ℤ z) (dot_take f.coefs point n (omega arith)) in
-    let below : unsigned_abs (dot f.coefs q) ≤ length f.coefs * 2 ^ 60 = dot_small f.coefs q parts.1 s in
-    let small : unsigned_abs (f.constant +ℤ dot f.coefs q) < 2 ^ 63 = omega (arith, ints, near, below, size, deep) in
-    ap (λ z. int_wrap w64 z) whole ∙ int_wrap_fits w64 (value f q) (fits_signed_from_abs w64 (value f q) small)
-
-constants_near : (fs : List Form) → IsTrue (list_all constant_fits fs) → All IsNear fs
-constants_near [] h = All-nil IsNear
-constants_near (f ∷ fs) h =
-    let a : unsigned_abs f.constant ≤ 2 ^ 30 = leb-true _ _ ((and_parts _ _ h).0) in
-    All-cons IsNear f fs (omega (arith, a)) (constants_near fs ((and_parts _ _ h).1))
-
-raised_near : (fs : List Form) → IsTrue (list_all raised_fits fs) → All IsNear fs
-raised_near [] h = All-nil IsNear
-raised_near (f ∷ fs) h =
-    let a : unsigned_abs (f.constant +ℤ pos 1) ≤ 2 ^ 30 = leb-true _ _ ((and_parts _ _ h).0) in
-    All-cons IsNear f fs (omega (arith, ints, a)) (raised_near fs ((and_parts _ _ h).1))
-
-either : (a b : Bool) (P : Type 0) → (IsTrue a → P) → (IsTrue b → P) → IsTrue (a || b) → P
-either true b P f g h = f refl
-either false b P f g h = g h
-
-lows_near : (d : ℕ) (lows highs : List Form) → head_fits d lows highs ≡ true → All IsNear lows
-lows_near d lows highs h =
-    let parts : IsTrue (head_fits d lows highs) = h in
-    constants_near lows ((and_parts _ _ ((and_parts _ _ ((and_parts _ _ ((and_parts _ _ parts).1)).0)).1)).1)
-
-highs_near : (d : ℕ) (lows highs : List Form) → head_fits d lows highs ≡ true → All IsNear highs
-highs_near d lows highs h =
-    let parts : IsTrue (head_fits d lows highs) = h in
-    let fit : IsTrue (highs_fit d highs) = (and_parts (lows_fit d lows) (highs_fit d highs) ((and_parts _ _ parts).1)).1 in
-    either (list_all constant_fits highs) (list_all raised_fits highs) (All IsNear highs) (constants_near highs) (raised_near highs)
-    ((and_parts (list_all (coefs_fit d) highs) (list_all constant_fits highs || list_all raised_fits highs)
-    ((and_parts (are_few highs) (list_all (coefs_fit d) highs && (list_all constant_fits highs || list_all raised_fits highs)) fit).1)).1)
-
-between : (r : Range) (x : ℤ) → IsSmall r → r.low ≤ℤ x → x ≤ℤ r.high → IsAtMost (2 ^ 30) x
-between r x s l h =
-    let low : unsigned_abs r.low ≤ 2 ^ 30 = leb-true _ _ ((and_parts _ _ s).0) in
-    let high : unsigned_abs r.high ≤ 2 ^ 30 = leb-true _ _ ((and_parts _ _ s).1) in
-    omega (arith, ints)
-
-lies_near : (rs : List Range) (xs : List ℤ) → All IsSmall rs → IsTrue (lies_in rs xs) → All (IsAtMost (2 ^ 30)) xs
-lies_near [] [] s h = All-nil (IsAtMost (2 ^ 30))
-lies_near [] (x ∷ xs) s h = absurd cc
-lies_near (r ∷ rs) [] s h = absurd cc
-lies_near (r ∷ rs) (x ∷ xs) s h =
-    let f : LiesFirst r rs x xs = lies_first r rs x xs h in
-    All-cons (IsAtMost (2 ^ 30)) x xs (between r x (All-head IsSmall r rs s) f.low f.high) (lies_near rs xs (All-tail IsSmall r rs s) f.others)
-
-ends_same : (n : ℕ) (fs : List Form) (point : List ℤ) → n ≤ 6 → IsTrue (list_all (coefs_fit n) fs) → All IsNear fs → All (IsAtMost (2 ^ 30)) (take n point)
-    → map (λ f. wrapped f point) fs ≡ map (λ f. value f (take n point)) fs
-ends_same n [] point deep c h s = refl
-ends_same n (f ∷ fs) point deep c h s =
-    ap (λ z. z ∷ map (λ f. wrapped f point) fs) (wrapped_is n f point deep ((and_parts _ _ c).0) (All-head IsNear f fs h) s)
-    ∙ ap (λ zs. value f (take n point) ∷ zs) (ends_same n fs point deep ((and_parts _ _ c).1) (All-tail IsNear f fs h) s)
+values_take : (n : ℕ) (fs : List Form) (point : List ℤ) → IsTrue (list_all (coefs_fit n) fs) → map (λ f. value f point) fs ≡ map (λ f. value f (take n point)) fs
+values_take n [] point c = refl
+values_take n (f ∷ fs) point c =
+    let size : length f.coefs ≡ n = eqb-true _ _ ((and_parts (nat_eq (length f.coefs) n) (list_all (is_at_most most_affine) f.coefs) ((and_parts _ _ c).0)).0) in
+    ap (λ z. z ∷ map (λ f. value f point) fs) (value_take n f point size)
+    ∙ ap (λ zs. value f (take n point) ∷ zs) (values_take n fs point ((and_parts _ _ c).1))
 
 -- turns
 
-turns_same : (n : ℕ) (low : ℤ) (f g : ℤ → List ℤ → List ℤ) (cells : List ℤ) → ((k : ℕ) (c : List ℤ) → k < n → f (low +ℤ pos k) c ≡ g (low +ℤ pos k) c)
-    → turns n low f cells ≡ turns n low g cells
-turns_same zero low f g cells h = refl
-turns_same (suc n) low f g cells h =
-    h n (turns n low f cells) (omega arith) ∙ ap (λ c. g (low +ℤ pos n) c) (turns_same n low f g cells (λ k c l. h k c (omega arith)))
+turns_same : (xs : List ℤ) (low high : ℤ) (t : ℤ → Bool) (f g : ℤ → List ℤ → List ℤ) (cells : List ℤ) → IsTrue (list_all (λ x. int_le low x && int_le x high) xs)
+    → IsTrue (list_all t xs) → ((x : ℤ) (c : List ℤ) → low ≤ℤ x → x ≤ℤ high → IsTrue (t x) → f x c ≡ g x c) → turns xs f cells ≡ turns xs g cells
+turns_same [] low high t f g cells b i h = refl
+turns_same (x ∷ xs) low high t f g cells b i h =
+    let ends = and_parts (int_le low x && int_le x high) (list_all (λ x. int_le low x && int_le x high) xs) b in
+    let here = and_parts (int_le low x) (int_le x high) ends.0 in
+    let inside = and_parts (t x) (list_all t xs) i in
+    let from : low ≤ℤ x = let e : int_le low x ≡ true = here.0 in grind (arith, ints) in
+    let to : x ≤ℤ high = let e : int_le x high ≡ true = here.1 in grind (arith, ints) in
+    ap (λ c. turns xs f c) (h x cells from to inside.0) ∙ turns_same xs low high t f g (g x cells) ends.1 inside.1 h
 
-low_is : (arrays : List ArrayDecl) (lows highs : List Form) (items : List Item) (point : List ℤ) (d : ℕ) → d ≤ 6 → length (take d point) ≡ d
-    → LoopAt arrays lows highs items (take d point) → flat_low lows point ≡ low_of lows (take d point)
-low_is arrays lows highs items point d deep l a =
-    let head : head_fits d lows highs ≡ true = rw l at a.head in
-    ap greatest (ends_same d lows point deep (head_lows d lows highs head) (lows_near d lows highs head) (lies_near a.boxes (take d point) a.small a.inside))
+in_range : (low high x : ℤ) → low ≤ℤ x → x ≤ℤ high → (int_le low x && int_le x high) ≡ true
+in_range low high x from to = grind (arith, ints)
 
-high_is : (arrays : List ArrayDecl) (lows highs : List Form) (items : List Item) (point : List ℤ) (d : ℕ) → d ≤ 6 → length (take d point) ≡ d
-    → LoopAt arrays lows highs items (take d point) → flat_high highs point ≡ high_of highs (take d point)
-high_is arrays lows highs items point d deep l a =
-    let head : head_fits d lows highs ≡ true = rw l at a.head in
-    ap least (ends_same d highs point deep (head_highs d lows highs head) (highs_near d lows highs head) (lies_near a.boxes (take d point) a.small a.inside))
-
-pub loop_flat : (arrays : List ArrayDecl) (d : ℕ) (item : Item) (lows highs lows' highs' : List Form) (items : List Item) (flats : List FlatItem) → item ≡ Loop lows highs items
-    → lows' ≡ lows → highs' ≡ highs → d < 6 → AreFlat arrays (d + 1) items flats → IsFlatItem arrays d item (flat.Loop d lows' highs' flats)
-loop_flat arrays d item lows highs lows' highs' items flats is el eh deep h = λ point cells l at i.
+pub loop_flat : (arrays : List ArrayDecl) (d : ℕ) (item : Item) (lows highs lows' highs' : List Form) (step : ℕ) (items : List Item) (flats : List FlatItem)
+    → item ≡ Loop lows highs step items → lows' ≡ lows → highs' ≡ highs → d < 6 → AreFlat arrays (d + 1) items flats → IsFlatItem arrays d item (flat.Loop d lows' highs' step flats)
+loop_flat arrays d item lows highs lows' highs' step items flats is el eh deep h = λ point cells l at i.
     let q : List ℤ = take d point in
     let size : length q ≡ d = length-take-le d point (omega arith) in
-    let a = loop_at arrays item lows highs items q is at in
-    let low = low_is arrays lows highs items point d (omega arith) size a in
-    let high = high_is arrays lows highs items point d (omega arith) size a in
-    let each : (k : ℕ) (c : List ℤ) → k < count (low_of lows q) (high_of highs q)
-    → run_flats flats (set point d (low_of lows q +ℤ pos k)) c ≡ run_items arrays items (q ++ (low_of lows q +ℤ pos k) ∷ []) c =
-    λ k c b.
-    let x : ℤ = low_of lows q +ℤ pos k in
+    let a = loop_at arrays item lows highs step items q is at in
+    let head : head_fits d lows highs step ≡ true = rw size at a.head in
+    let low : low_of lows point ≡ low_of lows q = ap greatest (values_take d lows point (head_lows d lows highs step head)) in
+    let high : high_of highs point ≡ high_of highs q = ap least (values_take d highs point (head_highs d lows highs step head)) in
+    let each : (x : ℤ) (c : List ℤ) → low_of lows q ≤ℤ x → x ≤ℤ high_of highs q → IsTrue (items_inside (extents_of arrays) items (q ++ x ∷ []))
+    → run_flats flats (set point d (near x)) c ≡ run_items (extents_of arrays) items (q ++ x ∷ []) c =
+    λ x c from to inside.
+    let small : unsigned_abs x ≤ 2 ^ 30 = value_small arrays lows highs step items q x a from to in
+    let same : near x ≡ x = (let e : is_at_most most_affine x ≡ true = le-leb (unsigned_abs x) most_affine small in rw e refl) in
     let inner : take (d + 1) (set point d x) ≡ q ++ x ∷ [] = take_more_set point d x (omega arith) in
     let l' : length (set point d x) ≡ 6 = omega (arith, length-set point d x) in
-    let at' : AreAt arrays items (take (d + 1) (set point d x)) = turn_at arrays lows highs items q (take (d + 1) (set point d x)) k a b inner in
-    let i' = turn_inside arrays item lows highs items q (take (d + 1) (set point d x)) k is b inner i in
-    flats_run arrays (d + 1) items flats h (set point d x) c l' at' i' ∙ ap (λ p. run_items arrays items p c) inner in
-    ap (λ ls. run_flat (flat.Loop d ls highs' flats) point cells) el
-    ∙ ap (λ hs. run_flat (flat.Loop d lows hs flats) point cells) eh
-    ∙ flat_loop_is d lows highs flats point cells
-    ∙ rw (low, high) (turns_same (count (low_of lows q) (high_of highs q)) (low_of lows q) (λ i. run_flats flats (set point d i)) (λ i. run_items arrays items (q ++ i ∷ [])) cells each)
-    ∙ sym (run_loop_is arrays lows highs items q cells) ∙ sym (ap (λ z. run_item arrays z q cells) is)
+    let at' : AreAt arrays items (take (d + 1) (set point d x)) = turn_at arrays lows highs step items q (take (d + 1) (set point d x)) x a from to inner in
+    let i' : IsTrue (items_inside (extents_of arrays) items (take (d + 1) (set point d x))) = rw inner inside in
+    ap (λ y. run_flats flats (set point d y) c) same ∙ flats_run arrays (d + 1) items flats h (set point d x) c l' at' i'
+    ∙ ap (λ p. run_items (extents_of arrays) items p c) inner in
+    let turn : ℤ → List ℤ → List ℤ = λ x. run_flats flats (set point d (near x)) in
+    let inside = loop_inside arrays item lows highs step items q (low_of lows q) (high_of highs q) is refl refl i in
+    rw (el, eh) (flat_loop_is d lows highs step flats point cells
+    ∙ ap (λ z. turns (loop_values z (high_of highs point) step) turn cells) low ∙ ap (λ z. turns (loop_values (low_of lows q) z step) turn cells) high
+    ∙ turns_same (loop_values (low_of lows q) (high_of highs q) step) (low_of lows q) (high_of highs q) (λ x. items_inside (extents_of arrays) items (q ++ x ∷ []))
+    turn (λ x. run_items (extents_of arrays) items (q ++ x ∷ [])) cells
+    (each_value (low_of lows q) (high_of highs q) step (λ x. int_le (low_of lows q) x && int_le x (high_of highs q)) (in_range (low_of lows q) (high_of highs q)))
+    inside each
+    ∙ sym (run_loop_is arrays lows highs step items q cells) ∙ sym (ap (λ z. run_item (extents_of arrays) z q cells) is))
+
+-- conditions
+
+pub if_below : (arrays : List ArrayDecl) (item : Item) (d : ℕ) (row : Form) (items : List Item) → item ≡ If row items → FitsBelow arrays item d → FitBelow arrays items d
+if_below arrays item d row items is b = record { boxes = b.boxes; loops = b.loops; fit = (if_fit arrays item row items b.boxes is b.fit).inner }
+
+pub if_flat : (arrays : List ArrayDecl) (d : ℕ) (item : Item) (row row' : Form) (items : List Item) (flats : List FlatItem) → item ≡ If row items → row' ≡ row
+    → d ≤ 6 → AreFlat arrays d items flats → IsFlatItem arrays d item (flat.If row' flats)
+if_flat arrays d item row row' items flats is er deep h = λ point cells l at i.
+    let q : List ℤ = take d point in
+    let size : length q ≡ d = length-take-le d point (omega arith) in
+    let fits : IsTrue (row_fits d row) = rw size at (row_at arrays item row items q is at) in
+    let whole : length row.coefs ≡ d = eqb-true _ _ ((and_parts (nat_eq (length row.coefs) d) _ fits).0) in
+    let same : is_met row point ≡ is_met row q = ap (λ z. int_le (pos 0) z) (value_take d row point whole) in
+    let here : (b : Bool) → b ≡ is_met row q → (if b then run_flats flats point cells else cells) ≡ run_item (extents_of arrays) item q cells =
+    λ b. by b (λ m. run_met arrays item row items q cells _ is m (flats_run arrays d items flats h point cells l (if_at arrays item row items q is at) (met_inside arrays item row items q is m i)))
+    (λ m. run_unmet arrays item row items q cells is m) in
+    rw er (flat_if_is row flats point cells ∙ here (is_met row point) same)
+  where
+    by : {next cells all : List ℤ} {m : Bool} (b : Bool) → (true ≡ m → next ≡ all) → (false ≡ m → cells ≡ all) → b ≡ m → (if b then next else cells) ≡ all
+    by true f g e = f e
+    by false f g e = g e
 
 -- a flattened nest, from the outermost items on
 
@@ -224,7 +182,7 @@ abbrev pub zeros : List ℤ
 zeros = pos 0 ∷ pos 0 ∷ pos 0 ∷ pos 0 ∷ pos 0 ∷ pos 0 ∷ []
 
 pub performed : (nest : LoopNest) (arrays : List ArrayDecl) (items : List Item) (flats flats' : List FlatItem) (cells mid next : List ℤ) → IsTrue (is_nest nest)
-    → IsTrue (items_inside nest.arrays nest.items []) → arrays ≡ nest.arrays → items ≡ nest.items → AreFlat arrays 0 items flats → flats' ≡ flats → mid ≡ cells
+    → IsTrue (items_inside (extents_of nest.arrays) nest.items []) → arrays ≡ nest.arrays → items ≡ nest.items → AreFlat arrays 0 items flats → flats' ≡ flats → mid ≡ cells
     → length next ≡ length mid → next ≡ run_flats flats' zeros mid → take (length cells) (next ++ drop (length next) cells) ≡ run nest cells
 performed nest arrays items flats flats' cells mid next n i ea ei f ef em len r =
     let f' : AreFlat nest.arrays 0 nest.items flats = subst (λ ys. AreFlat nest.arrays 0 ys flats) ei (subst (λ ds. AreFlat ds 0 items flats) ea f) in

@@ -1,11 +1,10 @@
 -- Forms that stand for places, and right sides and items made of them.
-use Rattle.std.proofs.Common.{◌≡◌, ℕ, zero, suc, ◌+◌, ◌-◌, ◌*◌, ◌<◌, ◌≤◌, ◌^◌, ℤ, pos, ◌+ℤ◌, ◌*ℤ◌, ◌-ℤ◌, neg_ℤ, ◌≤ℤ◌, ◌<ℤ◌, unsigned_abs, int_lt, not, Bool, true, ◌&&◌, List, [], ◌∷◌, get_or, take, drop, length, arith, ap, sym, ◌∙◌, refl, w64, FitsSigned}
+use Rattle.std.proofs.Common.{◌≡◌, ℕ, zero, suc, ◌+◌, ◌-◌, ◌*◌, ◌<◌, ◌≤◌, ◌^◌, ℤ, pos, ◌+ℤ◌, ◌*ℤ◌, ◌-ℤ◌, neg_ℤ, ◌≤ℤ◌, unsigned_abs, Bool, ◌&&◌, List, [], ◌∷◌, get_or, take, drop, length, arith, ap, sym, ◌∙◌, refl, w64, FitsSigned}
 use Rattle.std.specs.Bool.{IsTrue}
 use Rattle.std.specs.Int.{int_wrap}
 use Rattle.std.specs.List.{All, list_all}
 use Rattle.std.specs.Prelude.{Result, Ok, Err, IfOk}
 use Rattle.std.proofs.Math.IntN.{pos-*ℤ-pos}
-use Rattle.std.proofs.Math.Nat.{mul-le-mul_right, mul_assoc}
 use Rattle.std.proofs.lemmas.Bool.{and_parts, eqb-true}
 use Rattle.std.proofs.lemmas.Int.{ints, int_wrap_fits, fits_signed_from_abs}
 use Rattle.std.proofs.lemmas.List.{length-take-le}
@@ -23,11 +22,12 @@ use Rattle.ch_nest.specs.declared.nest.Sub.{Sub as Subscript}
 use Rattle.ch_nest.specs.declared.flat.FlatExpr.{FlatExpr}
 use Rattle.ch_nest.specs.declared.flat.FlatExpr.TheVariants as flat
 use Rattle.ch_nest.specs.declared.flat.FlatExpr.TheFolds.{fold-roll-FlatExpr}
-use Rattle.ch_nest.specs.Arrays.{cells_in, row_major, total, within}
+use Rattle.ch_nest.specs.Arrays.{extents_of, row_major, total}
 use Rattle.ch_nest.specs.Fast.{flat_step, flat_value, wrapped, IsFlatExpr, IsFlatPlace, IsPlain, IsRowMajor}
 use Rattle.ch_nest.specs.Run.{expr_step, expr_value, modulo, place, sub_value, subscripts}
 use Rattle.ch_nest.specs.Shape.{access_fits, arrays_fit, is_array, sub_fits}
 use Rattle.ch_nest.specs.Sound.{expr_inside, expr_inside_step}
+use Rattle.ch_nest.proofs.Distinct.{bounded}
 use Rattle.ch_nest.proofs.Places.{reached, first_within, rest_within, all_take}
 use Rattle.ch_nest.proofs.Rests.{all_rest, rest-cons}
 use Rattle.ch_nest.proofs.StartCells.{each_array, total_few}
@@ -97,36 +97,19 @@ row_step (n ∷ es) (t ∷ ss) s e at next f l m fit is i c h = λ point k v w.
 
 -- places
 
-row_major_below : (k : ℕ) (es : List ℕ) (ss : List ℤ) → IsTrue (within es ss) → row_major k es ss + 1 ≤ (k + 1) * cells_in es
-row_major_below k [] ss h = omega arith
-row_major_below k (n ∷ es) [] h = absurd cc
-row_major_below k (n ∷ es) (s ∷ ss) h =
-    let front = (and_parts (not (int_lt s (pos 0)) && int_lt s (pos n)) (within es ss) h).0 in
-    let a : not (int_lt s (pos 0)) ≡ true = (and_parts _ _ front).0 in
-    let b : int_lt s (pos n) ≡ true = (and_parts _ _ front).1 in
-    let low : pos 0 ≤ℤ s = grind (arith, ints) in
-    let high : s <ℤ pos n = grind (arith, ints) in
-    let room : (k * n + unsigned_abs s) + 1 ≤ (k + 1) * n = omega (arith, ints, low, high) in
-    omega (
-      arith,
-      row_major_below (k * n + unsigned_abs s) es ss ((and_parts _ _ h).1),
-      mul-le-mul_right (cells_in es) room,
-      mul_assoc (k + 1) n (cells_in es),
-    )
-
-total_take : (ds : List ArrayDecl) (k : ℕ) → total (take k ds) ≤ total ds
+total_take : (ds : List ArrayDecl) (k : ℕ) → total (extents_of (take k ds)) ≤ total (extents_of ds)
 total_take ds zero = omega arith
 total_take [] (suc k) = omega arith
 total_take (d ∷ ds) (suc k) = omega (arith, total_take ds k)
 
-pub before_few : (ds : List ArrayDecl) (k : ℕ) → IsTrue (arrays_fit ds) → total (take k ds) ≤ 262144
+pub before_few : (ds : List ArrayDecl) (k : ℕ) → IsTrue (arrays_fit ds) → total (extents_of (take k ds)) ≤ 262144
 before_few ds k h = omega (arith, total_take ds k, total_few ds h)
 
 pub before_fit : (ds : List ArrayDecl) (k : ℕ) → IsTrue (arrays_fit ds) → IsTrue (list_all is_array (take k ds))
 before_fit ds k h = all_take is_array k ds (each_array ds h)
 
 pub placed : (arrays : List ArrayDecl) (d : ℕ) (a : Access) (array : ArrayDecl) (before : ℕ) (es : List ℕ) (ss : List Subscript) (base start inner f : Form) → IsTrue (arrays_fit arrays) → IsTrue (access_fits arrays d a)
-    → d ≤ 6 → array ≡ get_or arrays a.array array → before ≡ total (take a.array arrays) → IsPlain d before base → IsPlain d 0 start
+    → d ≤ 6 → array ≡ get_or arrays a.array array → before ≡ total (extents_of (take a.array arrays)) → IsPlain d before base → IsPlain d 0 start
     → length inner.coefs ≡ length start.coefs → es ≡ array.extents → ss ≡ a.subs → IsRowMajor start es ss inner → f ≡ combined (pos 1) base (pos 1) inner → IsFlatPlace arrays d a f
 placed arrays d a array before es ss base start inner f fit ok deep is n b s same ee se h e = λ point l i.
     let q : List ℤ = take d point in
@@ -138,86 +121,61 @@ placed arrays d a array before es ss base start inner f fit ok deep is n b s sam
     let w : value inner q ≡ pos row = rw (ee, se) at w' in
     let v : value f q ≡ pos 1 *ℤ value base q +ℤ pos 1 *ℤ value inner q =
     rw e (value_combined (pos 1) (pos 1) base inner q (b.same ∙ sym (same ∙ s.same))) in
-    let sum : value f q ≡ pos (place arrays a q) = omega (arith, ints, v, w, n, b.everywhere q, r.placed) in
+    let sum : value f q ≡ pos (place (extents_of arrays) a q) = omega (arith, ints, v, w, n, b.everywhere q, r.placed) in
     let few : length f.coefs ≤ d = rw (e, ← b.same) (length-combined (pos 1) (pos 1) base.coefs inner.coefs) in
     let whole : value f point ≡ value f q = ap (λ z. f.constant +ℤ z) (dot_take f.coefs point d few) in
-    let below = row_major_below 0 array.extents (subscripts a q) r.within_it in
-    let small : place arrays a q < 262144 = omega (arith, below, r.room, r.few, r.placed) in
-    let fits : FitsSigned w64 (pos (place arrays a q)) = fits_signed_from_abs w64 (pos (place arrays a q)) (omega arith) in
-    let wraps : wrapped f point ≡ pos (place arrays a q) = ap (λ z. int_wrap w64 z) (whole ∙ sum) ∙ int_wrap_fits w64 (pos (place arrays a q)) fits in
+    let below = bounded 0 array.extents (subscripts a q) r.within_it in
+    let small : place (extents_of arrays) a q < 262144 = omega (arith, below, r.room, r.few, r.placed) in
+    let fits : FitsSigned w64 (pos (place (extents_of arrays) a q)) = fits_signed_from_abs w64 (pos (place (extents_of arrays) a q)) (omega arith) in
+    let wraps : wrapped f point ≡ pos (place (extents_of arrays) a q) = ap (λ z. int_wrap w64 z) (whole ∙ sum) ∙ int_wrap_fits w64 (pos (place (extents_of arrays) a q)) fits in
     ap unsigned_abs wraps
 
 -- right sides
 
-module _ (arrays : List ArrayDecl) (point cells : List ℤ) where
-  value_neg_is : (x : Expr) → expr_value arrays point cells (Neg x) ≡ int_wrap w64 (neg_ℤ (expr_value arrays point cells x))
-  value_neg_is x = ap (expr_value arrays point cells) (sym (rolls-Neg x)) ∙ fold-roll-Expr ℤ (expr_step arrays point cells) _
-
-  flat_neg_is : (x : FlatExpr) → flat_value point cells (flat.Neg x) ≡ int_wrap w64 (neg_ℤ (flat_value point cells x))
-  flat_neg_is x = ap (flat_value point cells) (sym (flat.rolls-Neg x)) ∙ fold-roll-FlatExpr ℤ (flat_step point cells) _
-
-  inside_neg_is : (x : Expr) → expr_inside arrays point (Neg x) ≡ expr_inside arrays point x
-  inside_neg_is x = ap (expr_inside arrays point) (sym (rolls-Neg x)) ∙ fold-roll-Expr Bool (expr_inside_step arrays point) _
-
-  value_add_is : (x y : Expr) → expr_value arrays point cells (Add x y) ≡ int_wrap w64 (expr_value arrays point cells x +ℤ expr_value arrays point cells y)
-  value_add_is x y = ap (expr_value arrays point cells) (sym (rolls-Add x y)) ∙ fold-roll-Expr ℤ (expr_step arrays point cells) _
-
-  flat_add_is : (x y : FlatExpr) → flat_value point cells (flat.Add x y) ≡ int_wrap w64 (flat_value point cells x +ℤ flat_value point cells y)
-  flat_add_is x y = ap (flat_value point cells) (sym (flat.rolls-Add x y)) ∙ fold-roll-FlatExpr ℤ (flat_step point cells) _
-
-  inside_add_is : (x y : Expr) → expr_inside arrays point (Add x y) ≡ (expr_inside arrays point x && expr_inside arrays point y)
-  inside_add_is x y = ap (expr_inside arrays point) (sym (rolls-Add x y)) ∙ fold-roll-Expr Bool (expr_inside_step arrays point) _
-
-  value_sub_is : (x y : Expr) → expr_value arrays point cells (Sub x y) ≡ int_wrap w64 (expr_value arrays point cells x -ℤ expr_value arrays point cells y)
-  value_sub_is x y = ap (expr_value arrays point cells) (sym (rolls-Sub x y)) ∙ fold-roll-Expr ℤ (expr_step arrays point cells) _
-
-  flat_sub_is : (x y : FlatExpr) → flat_value point cells (flat.Sub x y) ≡ int_wrap w64 (flat_value point cells x -ℤ flat_value point cells y)
-  flat_sub_is x y = ap (flat_value point cells) (sym (flat.rolls-Sub x y)) ∙ fold-roll-FlatExpr ℤ (flat_step point cells) _
-
-  inside_sub_is : (x y : Expr) → expr_inside arrays point (Sub x y) ≡ (expr_inside arrays point x && expr_inside arrays point y)
-  inside_sub_is x y = ap (expr_inside arrays point) (sym (rolls-Sub x y)) ∙ fold-roll-Expr Bool (expr_inside_step arrays point) _
-
-  value_mul_is : (x y : Expr) → expr_value arrays point cells (Mul x y) ≡ int_wrap w64 (expr_value arrays point cells x *ℤ expr_value arrays point cells y)
-  value_mul_is x y = ap (expr_value arrays point cells) (sym (rolls-Mul x y)) ∙ fold-roll-Expr ℤ (expr_step arrays point cells) _
-
-  flat_mul_is : (x y : FlatExpr) → flat_value point cells (flat.Mul x y) ≡ int_wrap w64 (flat_value point cells x *ℤ flat_value point cells y)
-  flat_mul_is x y = ap (flat_value point cells) (sym (flat.rolls-Mul x y)) ∙ fold-roll-FlatExpr ℤ (flat_step point cells) _
-
-  inside_mul_is : (x y : Expr) → expr_inside arrays point (Mul x y) ≡ (expr_inside arrays point x && expr_inside arrays point y)
-  inside_mul_is x y = ap (expr_inside arrays point) (sym (rolls-Mul x y)) ∙ fold-roll-Expr Bool (expr_inside_step arrays point) _
+-- an operation on two sides
+flat_both : (arrays : List ArrayDecl) (d : ℕ) (e x y : Expr) (f fx fy : FlatExpr) (op : ℤ → ℤ → ℤ)
+    → ((point cells : List ℤ) → expr_value (extents_of arrays) point cells e ≡ op (expr_value (extents_of arrays) point cells x) (expr_value (extents_of arrays) point cells y))
+    → ((point cells : List ℤ) → flat_value point cells f ≡ op (flat_value point cells fx) (flat_value point cells fy))
+    → ((point : List ℤ) → expr_inside (extents_of arrays) point e ≡ (expr_inside (extents_of arrays) point x && expr_inside (extents_of arrays) point y))
+    → IsFlatExpr arrays d x fx → IsFlatExpr arrays d y fy → IsFlatExpr arrays d e f
+flat_both arrays d e x y f fx fy op value flat inside hx hy = λ point cells l h.
+    let q : List ℤ = take d point in
+    let i : IsTrue (expr_inside (extents_of arrays) q x && expr_inside (extents_of arrays) q y) = rw (inside q) at h in
+    let parts = and_parts (expr_inside (extents_of arrays) q x) (expr_inside (extents_of arrays) q y) i in
+    rw (flat point cells, value q cells, hx point cells l parts.0, hy point cells l parts.1) refl
 
 pub flat_neg : (arrays : List ArrayDecl) (d : ℕ) (e x : Expr) (fx : FlatExpr) → e ≡ Neg x → IsFlatExpr arrays d x fx → IsFlatExpr arrays d e (flat.Neg fx)
 flat_neg arrays d e x fx is hx = λ point cells l h.
-    let i : IsTrue (expr_inside arrays (take d point) x) = rw (is, inside_neg_is arrays (take d point) cells x) at h in
-    flat_neg_is arrays point cells fx ∙ ap (λ v. int_wrap w64 (neg_ℤ v)) (hx point cells l i) ∙ sym (value_neg_is arrays (take d point) cells x)
-    ∙ sym (ap (λ z. expr_value arrays (take d point) cells z) is)
+    let q : List ℤ = take d point in
+    let inside : expr_inside (extents_of arrays) q e ≡ expr_inside (extents_of arrays) q x =
+    ap (expr_inside (extents_of arrays) q) (is ∙ sym (rolls-Neg x)) ∙ fold-roll-Expr Bool (expr_inside_step (extents_of arrays) q) _ in
+    let value : expr_value (extents_of arrays) q cells e ≡ int_wrap w64 (neg_ℤ (expr_value (extents_of arrays) q cells x)) =
+    ap (expr_value (extents_of arrays) q cells) (is ∙ sym (rolls-Neg x)) ∙ fold-roll-Expr ℤ (expr_step (extents_of arrays) q cells) _ in
+    let flat : flat_value point cells (flat.Neg fx) ≡ int_wrap w64 (neg_ℤ (flat_value point cells fx)) =
+    ap (flat_value point cells) (sym (flat.rolls-Neg fx)) ∙ fold-roll-FlatExpr ℤ (flat_step point cells) _ in
+    let i : IsTrue (expr_inside (extents_of arrays) q x) = rw inside at h in
+    rw (flat, value, hx point cells l i) refl
 
 pub flat_add : (arrays : List ArrayDecl) (d : ℕ) (e x y : Expr) (fx fy : FlatExpr) → e ≡ Add x y → IsFlatExpr arrays d x fx → IsFlatExpr arrays d y fy
     → IsFlatExpr arrays d e (flat.Add fx fy)
-flat_add arrays d e x y fx fy is hx hy = λ point cells l h.
-    let i : IsTrue (expr_inside arrays (take d point) x && expr_inside arrays (take d point) y) = rw (is, inside_add_is arrays (take d point) cells x y) at h in
-    let parts = and_parts (expr_inside arrays (take d point) x) (expr_inside arrays (take d point) y) i in
-    flat_add_is arrays point cells fx fy ∙ ap (λ v. int_wrap w64 (v +ℤ flat_value point cells fy)) (hx point cells l parts.0)
-    ∙ ap (λ v. int_wrap w64 (expr_value arrays (take d point) cells x +ℤ v)) (hy point cells l parts.1) ∙ sym (value_add_is arrays (take d point) cells x y)
-    ∙ sym (ap (λ z. expr_value arrays (take d point) cells z) is)
+flat_add arrays d e x y fx fy is = flat_both arrays d e x y (flat.Add fx fy) fx fy (λ v w. int_wrap w64 (v +ℤ w))
+    (λ point cells. ap (expr_value (extents_of arrays) point cells) (is ∙ sym (rolls-Add x y)) ∙ fold-roll-Expr ℤ (expr_step (extents_of arrays) point cells) _)
+    (λ point cells. ap (flat_value point cells) (sym (flat.rolls-Add fx fy)) ∙ fold-roll-FlatExpr ℤ (flat_step point cells) _)
+    (λ point. ap (expr_inside (extents_of arrays) point) (is ∙ sym (rolls-Add x y)) ∙ fold-roll-Expr Bool (expr_inside_step (extents_of arrays) point) _)
 
 pub flat_sub : (arrays : List ArrayDecl) (d : ℕ) (e x y : Expr) (fx fy : FlatExpr) → e ≡ Sub x y → IsFlatExpr arrays d x fx → IsFlatExpr arrays d y fy
     → IsFlatExpr arrays d e (flat.Sub fx fy)
-flat_sub arrays d e x y fx fy is hx hy = λ point cells l h.
-    let i : IsTrue (expr_inside arrays (take d point) x && expr_inside arrays (take d point) y) = rw (is, inside_sub_is arrays (take d point) cells x y) at h in
-    let parts = and_parts (expr_inside arrays (take d point) x) (expr_inside arrays (take d point) y) i in
-    flat_sub_is arrays point cells fx fy ∙ ap (λ v. int_wrap w64 (v -ℤ flat_value point cells fy)) (hx point cells l parts.0)
-    ∙ ap (λ v. int_wrap w64 (expr_value arrays (take d point) cells x -ℤ v)) (hy point cells l parts.1) ∙ sym (value_sub_is arrays (take d point) cells x y)
-    ∙ sym (ap (λ z. expr_value arrays (take d point) cells z) is)
+flat_sub arrays d e x y fx fy is = flat_both arrays d e x y (flat.Sub fx fy) fx fy (λ v w. int_wrap w64 (v -ℤ w))
+    (λ point cells. ap (expr_value (extents_of arrays) point cells) (is ∙ sym (rolls-Sub x y)) ∙ fold-roll-Expr ℤ (expr_step (extents_of arrays) point cells) _)
+    (λ point cells. ap (flat_value point cells) (sym (flat.rolls-Sub fx fy)) ∙ fold-roll-FlatExpr ℤ (flat_step point cells) _)
+    (λ point. ap (expr_inside (extents_of arrays) point) (is ∙ sym (rolls-Sub x y)) ∙ fold-roll-Expr Bool (expr_inside_step (extents_of arrays) point) _)
 
 pub flat_mul : (arrays : List ArrayDecl) (d : ℕ) (e x y : Expr) (fx fy : FlatExpr) → e ≡ Mul x y → IsFlatExpr arrays d x fx → IsFlatExpr arrays d y fy
     → IsFlatExpr arrays d e (flat.Mul fx fy)
-flat_mul arrays d e x y fx fy is hx hy = λ point cells l h.
-    let i : IsTrue (expr_inside arrays (take d point) x && expr_inside arrays (take d point) y) = rw (is, inside_mul_is arrays (take d point) cells x y) at h in
-    let parts = and_parts (expr_inside arrays (take d point) x) (expr_inside arrays (take d point) y) i in
-    flat_mul_is arrays point cells fx fy ∙ ap (λ v. int_wrap w64 (v *ℤ flat_value point cells fy)) (hx point cells l parts.0)
-    ∙ ap (λ v. int_wrap w64 (expr_value arrays (take d point) cells x *ℤ v)) (hy point cells l parts.1) ∙ sym (value_mul_is arrays (take d point) cells x y)
-    ∙ sym (ap (λ z. expr_value arrays (take d point) cells z) is)
+flat_mul arrays d e x y fx fy is = flat_both arrays d e x y (flat.Mul fx fy) fx fy (λ v w. int_wrap w64 (v *ℤ w))
+    (λ point cells. ap (expr_value (extents_of arrays) point cells) (is ∙ sym (rolls-Mul x y)) ∙ fold-roll-Expr ℤ (expr_step (extents_of arrays) point cells) _)
+    (λ point cells. ap (flat_value point cells) (sym (flat.rolls-Mul fx fy)) ∙ fold-roll-FlatExpr ℤ (flat_step point cells) _)
+    (λ point. ap (expr_inside (extents_of arrays) point) (is ∙ sym (rolls-Mul x y)) ∙ fold-roll-Expr Bool (expr_inside_step (extents_of arrays) point) _)
 
 -- what holds of a value that a call may give
 

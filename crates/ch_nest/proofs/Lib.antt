@@ -1,6 +1,8 @@
 pub mod Boxed
 pub mod Capped
 pub mod Corners
+pub mod Distinct
+mod Examples
 pub mod Fits
 pub mod FlatItems
 pub mod FlatRuns
@@ -12,4 +14,5 @@ pub mod Signed
 pub mod Sounds
 pub mod StartCells
 pub mod Turns
+pub mod Values
 pub mod Walks

@@ -1,6 +1,6 @@
 -- What a flattened nest does: each access is one affine form, the flat index of its cell among all cells.
 -- A point has the values of six loops, of which those that do not stand around have no meaning.
-use Rattle.std.specs.Prelude.{◌≡◌, ℕ, ℤ, pos, ◌+ℤ◌, ◌-ℤ◌, ◌*ℤ◌, neg_ℤ, unsigned_abs, IsTrue, List, [], ◌∷◌, map, length, take, slice_index_or, slice_set}
+use Rattle.std.specs.Prelude.{◌≡◌, ℕ, ℤ, pos, ◌+ℤ◌, ◌-ℤ◌, ◌*ℤ◌, neg_ℤ, unsigned_abs, if◌then◌else◌, IsTrue, List, [], ◌∷◌, map, length, take, slice_index_or, slice_set}
 use Rattle.std.specs.Int.{int_wrap, w64}
 use Rattle.ch_affine.specs.Form.{Form}
 use Rattle.ch_affine.specs.Affine.{value}
@@ -16,10 +16,11 @@ use Rattle.ch_nest.specs.declared.flat.FlatExpr.TheFolds.{fold-FlatExpr}
 use Rattle.ch_nest.specs.declared.flat.FlatItem.{FlatItem}
 use Rattle.ch_nest.specs.declared.flat.FlatItem.TheOpen.{FlatItem-F}
 use Rattle.ch_nest.specs.declared.flat.FlatItem.TheFolds.{fold-FlatItem}
-use Rattle.ch_nest.specs.Arrays.{row_major, within}
+use Rattle.ch_nest.specs.Arrays.{extents_of, row_major, within}
 use Rattle.ch_nest.specs.At.{IsAt}
-use Rattle.ch_nest.specs.Run.{Change, count, expr_value, greatest, in_order, least, place, run_item, sub_value, turns}
-use Rattle.ch_nest.specs.Shape.{item_fits, items_fit}
+use Rattle.ch_nest.specs.Limits.{most_affine}
+use Rattle.ch_nest.specs.Run.{Change, expr_value, in_order, is_met, place, run_item, sub_value, turns, values_at}
+use Rattle.ch_nest.specs.Shape.{is_at_most, item_fits, items_fit}
 use Rattle.ch_nest.specs.Sound.{access_inside, expr_inside, item_inside}
 
 abbrev pub wrapped : Form → List ℤ → ℤ
@@ -40,15 +41,14 @@ flat_step point cells (FlatExpr-F.Mul x y) = int_wrap w64 (x *ℤ y)
 abbrev pub flat_value : List ℤ → List ℤ → FlatExpr → ℤ
 flat_value point cells = fold-FlatExpr ℤ (flat_step point cells)
 
-abbrev pub flat_low : List Form → List ℤ → ℤ
-flat_low lows point = greatest (map (λ f. wrapped f point) lows)
-
-abbrev pub flat_high : List Form → List ℤ → ℤ
-flat_high highs point = least (map (λ f. wrapped f point) highs)
+-- the values of a well formed nest's loops are near
+abbrev pub near : ℤ → ℤ
+near z = if is_at_most most_affine z then z else pos 0
 
 abbrev pub flat_item_step : FlatItem-F Change → Change
-flat_item_step (FlatItem-F.Loop level lows highs items) point cells =
-    turns (count (flat_low lows point) (flat_high highs point)) (flat_low lows point) (λ i. in_order items (slice_set point level i)) cells
+flat_item_step (FlatItem-F.Loop level lows highs step items) point cells =
+    turns (values_at lows highs step point) (λ i. in_order items (slice_set point level (near i))) cells
+flat_item_step (FlatItem-F.If row items) point cells = if is_met row point then in_order items point cells else cells
 flat_item_step (FlatItem-F.Assign write right) point cells = slice_set cells (flat_place write point) (flat_value point cells right)
 
 abbrev pub run_flat : FlatItem → Change
@@ -73,16 +73,16 @@ IsRowMajor at extents subs f =
 
 abbrev pub IsFlatPlace : List ArrayDecl → ℕ → Access → Form → Type 0
 IsFlatPlace arrays depth a f =
-    (point : List ℤ) → length point ≡ 6 → IsTrue (access_inside arrays (take depth point) a) → flat_place f point ≡ place arrays a (take depth point)
+    (point : List ℤ) → length point ≡ 6 → IsTrue (access_inside (extents_of arrays) (take depth point) a) → flat_place f point ≡ place (extents_of arrays) a (take depth point)
 
 abbrev pub IsFlatExpr : List ArrayDecl → ℕ → Expr → FlatExpr → Type 0
 IsFlatExpr arrays depth e f =
-    (point cells : List ℤ) → length point ≡ 6 → IsTrue (expr_inside arrays (take depth point) e) → flat_value point cells f ≡ expr_value arrays (take depth point) cells e
+    (point cells : List ℤ) → length point ≡ 6 → IsTrue (expr_inside (extents_of arrays) (take depth point) e) → flat_value point cells f ≡ expr_value (extents_of arrays) (take depth point) cells e
 
 abbrev pub IsFlatItem : List ArrayDecl → ℕ → Item → FlatItem → Type 0
 IsFlatItem arrays depth i f =
-    (point cells : List ℤ) → length point ≡ 6 → IsAt arrays i (take depth point) → IsTrue (item_inside arrays i (take depth point))
-    → run_flat f point cells ≡ run_item arrays i (take depth point) cells
+    (point cells : List ℤ) → length point ≡ 6 → IsAt arrays i (take depth point) → IsTrue (item_inside (extents_of arrays) i (take depth point))
+    → run_flat f point cells ≡ run_item (extents_of arrays) i (take depth point) cells
 
 abbrev pub AreFlat : List ArrayDecl → ℕ → List Item → List FlatItem → Type 0
 AreFlat arrays depth [] [] = Unit {0}

@@ -1,5 +1,6 @@
 pub mod Limits
 pub mod LoopNest
+pub mod CostModel
 pub mod Arrays
 pub mod Fills
 pub mod Run

@@ -5,6 +5,14 @@ use Rattle.std.specs.Prelude.{ℕ, ◌^◌}
 abbrev pub deepest : ℕ
 deepest = 6
 
+-- conditions around one another
+abbrev pub most_conditions : ℕ
+most_conditions = 32
+
+-- what is added to a loop's value from turn to turn
+abbrev pub most_step : ℕ
+most_step = 64
+
 abbrev pub most_statements : ℕ
 most_statements = 16
 
@@ -38,3 +46,15 @@ most_cells = 262144
 -- turns of all loops and instances of all statements
 abbrev pub most_work : ℕ
 most_work = 1048576
+
+-- a machine's cost of a turn and of a miss
+abbrev pub most_charge : ℕ
+most_charge = 2 ^ 20
+
+-- lines of a cache, and cells of a line
+abbrev pub most_cache : ℕ
+most_cache = 4096
+
+-- the magnitude of the numbers at which forms are valued
+abbrev pub most_value : ℕ
+most_value = 2 ^ 54

@@ -1,8 +1,10 @@
-ghost use Rattle.std.specs.Prelude.{◌≡◌, ◌<◌, ◌≤◌, ◌^◌, ℤ, pos, ◌+ℤ◌, map, unsigned_abs, slice_index_or, slice_set};
+ghost use Rattle.std.specs.Prelude.{◌≡◌, ◌<◌, ◌≤◌, ◌+◌, ◌^◌, ℤ, pos, ◌+ℤ◌, ◌*ℤ◌, map, unsigned_abs, slice_index_or, slice_set};
 ghost use Rattle.std.specs.Int.{int_wrap, w64};
-ghost use Rattle.ch_nest.specs.Fast.{flat_high, flat_low, flat_place, flat_value, run_flat, run_flats, wrapped};
-ghost use Rattle.ch_nest.specs.Run.{count};
+ghost use Rattle.ch_affine.specs.Affine.{IsAtMost, value};
+ghost use Rattle.ch_nest.specs.Fast.{flat_place, flat_value, near, run_flat, run_flats, wrapped};
+ghost use Rattle.ch_nest.specs.Run.{high_of, is_met, low_of};
 
+use crate::limits::MOST_AFFINE;
 use crate::run::{minus, negated, plus, times};
 use ch_affine::{Aff, Boxed, List};
 
@@ -19,12 +21,20 @@ pub(crate) enum FlatExpr {
 }
 
 /// An item in which each access is one form. A loop knows how many loops stand around it.
+///
+/// The ends of loops and the rows of conditions are taken in 128 bits: a row's coefficients reach 2^31 and
+/// values of loops 2^30, so that its value need not fit into 64. The places of cells do, and wrap on the way.
 #[derive(Debug, Drop)]
 pub(crate) enum FlatItem {
     Loop {
         level: u32,
         lows: List<Aff>,
         highs: List<Aff>,
+        step: u32,
+        items: List<FlatItem>,
+    },
+    If {
+        row: Aff,
         items: List<FlatItem>,
     },
     Assign {
@@ -95,43 +105,82 @@ fn flat_value(expr: &FlatExpr, point: &[i64], cells: &[i64]) -> i64
     }
 }
 
+fn product(coef: i64, x: i64) -> i128
+    requires { IsAtMost (2 ^ 60) coef }
+    ensures value { result ≡ coef *ℤ x }
+    ensures bound { IsAtMost (2 ^ 123) result }
+{
+    i128::from(coef) * i128::from(x)
+}
+
+fn sum(x: i128, y: i128) -> i128
+    requires { unsigned_abs x + unsigned_abs y ≤ 2 ^ 126 }
+    ensures value { result ≡ x +ℤ y }
+    ensures bound { unsigned_abs result ≤ unsigned_abs x + unsigned_abs y }
+{
+    x + y
+}
+
+/// The exact value of a form.
+fn exact(form: &Aff, point: &Point) -> i128
+    ensures value { result ≡ value form.now point.now }
+    ensures bound { IsAtMost (2 ^ 126) result }
+{
+    let coefs = form.coefs.as_slice();
+    let terms = coefs.len().min(point.len());
+    let mut value = i128::from(form.constant);
+    for k in 0..terms {
+        value = sum(value, product(coefs[k], point[k]));
+    }
+    value
+}
+
 #[tactic(auto, using(crate::proofs::Rests::all_rest))]
-fn flat_low(lows: &[Aff], point: &[i64]) -> i64
-    ensures { result ≡ flat_low lows.now point.now }
+fn low_at(lows: &[Aff], point: &Point) -> i128
+    ensures value { result ≡ low_of lows.now point.now }
+    ensures bound { IsAtMost (2 ^ 126) result }
 {
     match lows {
         [] => 0,
-        [only] => wrapped(only, point),
-        [first, others @ ..] => wrapped(first, point).max(flat_low(others, point)),
+        [only] => exact(only, point),
+        [first, others @ ..] => exact(first, point).max(low_at(others, point)),
     }
 }
 
 #[tactic(auto, using(crate::proofs::Rests::all_rest))]
-fn flat_high(highs: &[Aff], point: &[i64]) -> i64
-    ensures { result ≡ flat_high highs.now point.now }
+fn high_at(highs: &[Aff], point: &Point) -> i128
+    ensures value { result ≡ high_of highs.now point.now }
+    ensures bound { IsAtMost (2 ^ 126) result }
 {
     match highs {
         [] => 0,
-        [only] => wrapped(only, point),
-        [first, others @ ..] => wrapped(first, point).min(flat_high(others, point)),
+        [only] => exact(only, point),
+        [first, others @ ..] => exact(first, point).min(high_at(others, point)),
     }
 }
 
-fn turns_between(low: i64, high: i64) -> u128
-    ensures { result ≡ count low high }
+fn raised(value: i128, step: u32) -> i128
+    requires { IsAtMost (2 ^ 126) value }
+    ensures { result ≡ value +ℤ pos step }
 {
-    if high < low {
-        0
+    value + i128::from(step)
+}
+
+fn holds(row: &Aff, point: &Point) -> bool
+    ensures { result ≡ is_met row.now point.now }
+{
+    0 <= exact(row, point)
+}
+
+/// A loop's value, or 0 where it is past the limit of loop ends.
+fn near(value: i128) -> i64
+    ensures { result ≡ near value }
+{
+    if value.unsigned_abs() <= u128::from(MOST_AFFINE) {
+        value as i64
     } else {
-        (i128::from(high) - i128::from(low) + 1) as u128
+        0
     }
-}
-
-fn nth_between(low: i64, high: i64, k: u128) -> i64
-    requires { k < count low high }
-    ensures { result ≡ low +ℤ pos k }
-{
-    (i128::from(low) + k as i128) as i64
 }
 
 /// The point with the value of one loop in its place.
@@ -143,7 +192,8 @@ fn moved(point: &Point, level: u32, value: i64) -> Point
     inner
 }
 
-/// Does what the items do, in order. It asks nothing of them: a place that isn't there reads as 0 and isn't written.
+/// Does what the items do, in order. It asks nothing of them: a place that isn't there reads as 0 and isn't
+/// written.
 #[cycle(flat)]
 #[tactic(auto, using(crate::proofs::FlatRuns::run_flats_more))]
 pub(crate) fn run_flats(items: &[FlatItem], point: &Point, cells: &mut [i64])
@@ -167,14 +217,24 @@ fn run_flat(item: &FlatItem, point: &Point, cells: &mut [i64])
             level,
             lows,
             highs,
+            step,
             items,
         } => {
-            let low = flat_low(lows.as_slice(), point);
-            let high = flat_high(highs.as_slice(), point);
-            let turns = turns_between(low, high);
-            for k in 0..turns {
-                let inner = moved(point, *level, nth_between(low, high, k));
+            // Without a step there is no turn.
+            if *step == 0 {
+                return;
+            }
+            let mut value = low_at(lows.as_slice(), point);
+            let high = high_at(highs.as_slice(), point);
+            'turns: while value <= high {
+                let inner = moved(point, *level, near(value));
                 run_flats(items.as_slice(), &inner, cells);
+                value = raised(value, *step);
+            }
+        }
+        FlatItem::If { row, items } => {
+            if holds(row, point) {
+                run_flats(items.as_slice(), point, cells);
             }
         }
     }

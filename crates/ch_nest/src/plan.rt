@@ -1,7 +1,7 @@
 ghost use Rattle.std.specs.Prelude.{◌≡◌, ◌≤◌, ◌<◌, ◌^◌, ℤ, pos, [], length, take, IsTrue, IfOk, OnOk, OnErr};
 ghost use Rattle.std.specs.List.{list_all};
 ghost use Rattle.ch_affine.specs.Affine.{value};
-ghost use Rattle.ch_nest.specs.Arrays.{total};
+ghost use Rattle.ch_nest.specs.Arrays.{extents_of, total};
 ghost use Rattle.ch_nest.specs.Fast.{AreFlat, FitBelow, FitsBelow, IsFlatExpr, IsFlatItem, IsFlatPlace, IsPlain, IsRowMajor};
 ghost use Rattle.ch_nest.specs.Limits.{deepest};
 ghost use Rattle.ch_nest.specs.Run.{run};
@@ -177,7 +177,12 @@ fn item_form(
             let right = expr_form(alloc, arrays, &body.right, depth)?;
             Ok(FlatItem::Assign { write, right })
         }
-        Item::Loop { lows, highs, items } => {
+        Item::Loop {
+            lows,
+            highs,
+            step,
+            items,
+        } => {
             let lows = copied(alloc, lows.as_slice())?;
             let highs = copied(alloc, highs.as_slice())?;
             let items = items_form(alloc, arrays, items.as_slice(), depth + 1)?;
@@ -185,8 +190,14 @@ fn item_form(
                 level: depth as u32,
                 lows,
                 highs,
+                step: *step,
                 items,
             })
+        }
+        Item::If { row, items } => {
+            let row = row.copied(alloc)?;
+            let items = items_form(alloc, arrays, items.as_slice(), depth)?;
+            Ok(FlatItem::If { row, items })
         }
     }
 }
@@ -194,8 +205,8 @@ fn item_form(
 /// Runs a sound nest once in program order, as [`run_nest`] does, but finds the place of each access once, before it starts.
 /// Memory is taken before the first cell is written.
 pub fn perform(alloc: Global, nest: &Nest, cells: &mut List<i64>) -> Result<(), AllocError>
-    requires size { length cells.old ≡ total nest.now.arrays }
-    requires inside { IsTrue (items_inside nest.now.arrays nest.now.items []) }
+    requires size { length cells.old ≡ total (extents_of nest.now.arrays) }
+    requires inside { IsTrue (items_inside (extents_of nest.now.arrays) nest.now.items []) }
     ensures ok { OnOk result (cells.new ≡ run nest.now cells.old) }
     ensures err { OnErr result (cells.new ≡ cells.old) }
 {

@@ -104,17 +104,41 @@ fn array(alloc: Global, extents: &[u32]) -> Result<ArrayDecl, AllocError> {
     })
 }
 
-/// A loop below `depth` others that has `count` low ends and as many high ends.
-fn loop_of(
-    alloc: Global,
-    depth: usize,
-    ends: (i64, i64),
-    count: u32,
-    items: List<Item>,
-) -> Result<Item, Fail> {
-    let lows = copies(alloc, depth, ends.0, count)?;
-    let highs = copies(alloc, depth, ends.1, count)?;
-    Ok(Item::Loop { lows, highs, items })
+/// Where a loop begins and ends, how many low and high ends it has, and its step.
+#[derive(Clone, Copy)]
+struct Head {
+    low: i64,
+    high: i64,
+    forms: u32,
+    step: u32,
+}
+
+fn unit_head(low: i64, high: i64) -> Head {
+    Head {
+        low,
+        high,
+        forms: 1,
+        step: 1,
+    }
+}
+
+/// A loop below `depth` others.
+fn loop_of(alloc: Global, depth: usize, head: Head, items: List<Item>) -> Result<Item, Fail> {
+    let lows = copies(alloc, depth, head.low, head.forms)?;
+    let highs = copies(alloc, depth, head.high, head.forms)?;
+    let step = head.step;
+    Ok(Item::Loop {
+        lows,
+        highs,
+        step,
+        items,
+    })
+}
+
+/// A condition that holds where the form is at least 0.
+fn if_of(alloc: Global, row: Form<'_>, items: List<Item>) -> Result<Item, Fail> {
+    let row = form(alloc, row)?;
+    Ok(Item::If { row, items })
 }
 
 fn copies(alloc: Global, depth: usize, constant: i64, count: u32) -> Result<List<Aff>, Fail> {
@@ -150,7 +174,10 @@ fn plan_items(alloc: Global, plan: &Plan<'_>) -> Result<List<Item>, Fail> {
 fn nest_of(alloc: Global, plan: &Plan<'_>) -> Result<Nest, Fail> {
     let mut items = plan_items(alloc, plan)?;
     for (depth, ends) in plan.loops.iter().enumerate().rev() {
-        items = one(alloc, loop_of(alloc, depth, *ends, 1, items)?)?;
+        items = one(
+            alloc,
+            loop_of(alloc, depth, unit_head(ends.0, ends.1), items)?,
+        )?;
     }
     let arrays = plan_arrays(alloc, plan)?;
     let nest = Nest::new(arrays, items).ok_or("a nest")?;
@@ -167,6 +194,11 @@ enum Change {
     Signs(u32),
     SumInSigns(u32),
     Forms(u32),
+    Step(u32),
+    StepOfMax(u32),
+    Conditions(u32),
+    RowCoef(i64),
+    RowConstant(i64),
     High(i64),
     Coef(i64),
     Constant(i64),
@@ -187,6 +219,9 @@ struct Case {
     operands: u32,
     signs: u32,
     forms: u32,
+    step: u32,
+    conditions: u32,
+    row: (i64, i64),
     high: i64,
     coef: i64,
     constant: i64,
@@ -206,6 +241,9 @@ fn changed(change: Change) -> Case {
         operands: 1,
         signs: 0,
         forms: 1,
+        step: 1,
+        conditions: 0,
+        row: (0, 0),
         high: 1,
         coef: 0,
         constant: 0,
@@ -227,6 +265,20 @@ fn changed(change: Change) -> Case {
             case.signs = n;
         }
         Change::Forms(n) => case.forms = n,
+        Change::Step(n) => case.step = n,
+        Change::StepOfMax(n) => {
+            case.forms = 2;
+            case.step = n;
+        }
+        Change::Conditions(n) => case.conditions = n,
+        Change::RowCoef(n) => {
+            case.conditions = 1;
+            case.row = (n, 0);
+        }
+        Change::RowConstant(n) => {
+            case.conditions = 1;
+            case.row = (0, n);
+        }
         Change::High(n) => case.high = n,
         Change::Coef(n) => case.coef = n,
         Change::Constant(n) => case.constant = n,
@@ -246,7 +298,7 @@ fn changed(change: Change) -> Case {
 
 const LARGE: i64 = 1 << 30;
 
-const LIMITS: [(Change, bool); 41] = [
+const LIMITS: [(Change, bool); 58] = [
     (Change::Loops(0), true),
     (Change::Loops(6), true),
     (Change::Loops(7), false),
@@ -263,6 +315,23 @@ const LIMITS: [(Change, bool); 41] = [
     (Change::Forms(0), false),
     (Change::Forms(4), true),
     (Change::Forms(5), false),
+    (Change::Step(0), false),
+    (Change::Step(2), true),
+    (Change::Step(64), true),
+    (Change::Step(65), false),
+    (Change::StepOfMax(1), true),
+    (Change::StepOfMax(2), false),
+    (Change::Conditions(1), true),
+    (Change::Conditions(32), true),
+    (Change::Conditions(33), false),
+    (Change::RowCoef(2 * LARGE), true),
+    (Change::RowCoef(2 * LARGE + 1), false),
+    (Change::RowCoef(-2 * LARGE), true),
+    (Change::RowCoef(-2 * LARGE - 1), false),
+    (Change::RowConstant(2 * LARGE), true),
+    (Change::RowConstant(2 * LARGE + 1), false),
+    (Change::RowConstant(-2 * LARGE - 1), true),
+    (Change::RowConstant(-2 * LARGE - 2), false),
     (Change::High(LARGE), true),
     (Change::High(LARGE + 1), false),
     (Change::High(-LARGE), true),
@@ -324,6 +393,11 @@ fn case_items(alloc: Global, case: &Case) -> Result<List<Item>, Fail> {
         items.push(Item::Assign { label, body })?;
         label = label.wrapping_add(1);
     }
+    let coefs = [case.row.0; 8];
+    for _ in 0..case.conditions {
+        let row = (&coefs[..case.loops.min(8)], case.row.1);
+        items = one(alloc, if_of(alloc, row, items)?)?;
+    }
     Ok(items)
 }
 
@@ -338,8 +412,13 @@ fn case_array(alloc: Global, case: &Case) -> Result<ArrayDecl, AllocError> {
 fn case_nest(alloc: Global, case: &Case) -> Result<Option<Nest>, Fail> {
     let mut items = case_items(alloc, case)?;
     for depth in (0..case.loops).rev() {
-        let ends = (0, case.high);
-        items = one(alloc, loop_of(alloc, depth, ends, case.forms, items)?)?;
+        let head = Head {
+            low: 0,
+            high: case.high,
+            forms: case.forms,
+            step: case.step,
+        };
+        items = one(alloc, loop_of(alloc, depth, head, items)?)?;
     }
     let arrays = one(alloc, case_array(alloc, case)?)?;
     Ok(Nest::new(arrays, items))
@@ -500,5 +579,68 @@ fn work_and_subscripts_are_judged(rt: HostRuntime) -> Result<(), Fail> {
         !is_sound(&long(alloc, 524288)?),
         "1048578 turns and instances"
     );
+    Ok(())
+}
+
+/// `A[i] = i` in one loop, where a row of i is at least 0.
+fn guarded(alloc: Global, cells: u32, head: Head, row: Form<'_>) -> Result<Nest, Fail> {
+    let write = access(alloc, 0, &[(&[1], 0)])?;
+    let right = Expr::Iter(0);
+    let body = Body { write, right };
+    let assign = Item::Assign { label: 0, body };
+    let condition = if_of(alloc, row, one(alloc, assign)?)?;
+    let items = one(alloc, loop_of(alloc, 0, head, one(alloc, condition)?)?)?;
+    let arrays = one(alloc, array(alloc, &[cells])?)?;
+    let nest = Nest::new(arrays, items).ok_or("a nest")?;
+    Ok(nest)
+}
+
+const ZEROS: Fill = Fill { a: 0, b: 0 };
+
+#[test]
+fn a_loop_goes_on_by_its_step(rt: HostRuntime) -> Result<(), Fail> {
+    let alloc = rt.alloc();
+    let by_three = Head {
+        step: 3,
+        ..unit_head(1, 7)
+    };
+    let nest = guarded(alloc, 8, by_three, (&[0], 0))?;
+    let cells = ran(alloc, &nest, &[ZEROS])?.ok_or("a sound nest")?;
+    assert_eq!(rt; cells.as_slice(), [0, 1, 0, 0, 4, 0, 0, 7].as_slice());
+    // The high end needs not be a value.
+    let past = Head {
+        step: 3,
+        ..unit_head(1, 9)
+    };
+    assert!(rt; is_sound(&guarded(alloc, 8, past, (&[0], 0))?));
+    assert!(rt; !is_sound(&guarded(alloc, 7, past, (&[0], 0))?));
+    Ok(())
+}
+
+#[test]
+fn items_run_where_their_condition_holds(rt: HostRuntime) -> Result<(), Fail> {
+    let alloc = rt.alloc();
+    // 2*i >= 3
+    let nest = guarded(alloc, 4, unit_head(0, 3), (&[2], -3))?;
+    let cells = ran(alloc, &nest, &[ZEROS])?.ok_or("a sound nest")?;
+    assert_eq!(rt; cells.as_slice(), [0, 0, 2, 3].as_slice());
+    // A[4] isn't there, and isn't written where i is at most 3.
+    assert!(rt; is_sound(&guarded(alloc, 4, unit_head(0, 4), (&[-1], 3))?));
+    assert!(rt; !is_sound(&guarded(alloc, 4, unit_head(0, 4), (&[-1], 4))?));
+    Ok(())
+}
+
+#[test]
+fn turns_count_by_steps_and_conditions_count_nothing(rt: HostRuntime) -> Result<(), Fail> {
+    let alloc = rt.alloc();
+    let never: Form<'_> = (&[0], -1);
+    let by_two = |high| Head {
+        step: 2,
+        ..unit_head(0, high)
+    };
+    assert!(rt; is_sound(&guarded(alloc, 1, unit_head(0, 1048575), never)?));
+    assert!(rt; !is_sound(&guarded(alloc, 1, unit_head(0, 1048576), never)?));
+    assert!(rt; is_sound(&guarded(alloc, 1, by_two(2097151), never)?));
+    assert!(rt; !is_sound(&guarded(alloc, 1, by_two(2097152), never)?));
     Ok(())
 }
