@@ -11,3 +11,7 @@ pub mod Rolls
 pub mod Sorted
 pub mod WellFormed
 pub mod Woven
+pub mod Listings
+pub mod Stays
+pub mod MoreArrays
+pub mod Values

@@ -1,6 +1,7 @@
 -- Which elements conflict, and the least pair that a second list has the other way round.
 use Rattle.std.specs.Prelude.{ℤ, Bool, true, false, ◌&&◌, ◌||◌, nat_eq, Option, Some, None, List, [], ◌∷◌, ◌++◌, map}
 use Rattle.ch_nest.specs.declared.nest.Access.{Access}
+use Rattle.ch_nest.specs.declared.nest.Body.{Body}
 use Rattle.ch_nest.specs.declared.nest.Expr.{Expr}
 use Rattle.ch_nest.specs.declared.nest.Expr.TheOpen.{Expr-F}
 use Rattle.ch_nest.specs.declared.nest.Expr.TheFolds.{fold-Expr}
@@ -24,6 +25,10 @@ reads_step (Expr-F.Mul x y) = x ++ y
 -- the accesses that are read, from left to right
 abbrev pub reads : Expr → List Access
 reads = fold-Expr (List Access) reads_step
+
+-- the accesses of a body in access order: the reads from left to right, then the write
+abbrev pub accesses : Body → List Access
+accesses body = reads body.right ++ body.write ∷ []
 
 -- the cell of an access at these iterators
 abbrev pub cell_of : List ℤ → Access → Cell

@@ -7,7 +7,10 @@ mod laws;
 mod timed;
 
 pub use element::{Cell, Element, Identity, Label};
-pub use laws::{closing_keeps_order, start_in_order, start_is_run, start_well_formed};
+pub use laws::{
+    closing_keeps_order, execution_keeps_length, more_arrays_change_nothing, order_keeps_all,
+    start_in_order, start_is_run, start_stays_inside, start_well_formed,
+};
 pub use timed::Timed;
 
 #[cfg(test)]
