@@ -1,7 +1,6 @@
 -- Two elements without a conflict may change places.
-use Rattle.std.proofs.Common.{◌≡◌, refl, sym, ap, ap₂, ◌∙◌, subst, ℤ, ◌+ℤ◌, ◌-ℤ◌, ◌*ℤ◌, neg_ℤ, Bool, true, false, ◌&&◌, ◌||◌, if◌then◌else◌, Option, None, List, [], ◌∷◌, ◌++◌, map, inl, inr}
+use Rattle.std.proofs.Common.{◌≡◌, refl, sym, ap, ◌∙◌, subst, ℤ, Bool, true, false, ◌&&◌, ◌||◌, if◌then◌else◌, Option, None, List, [], ◌∷◌, ◌++◌, map, inl, inr}
 use Rattle.std.proofs.lemmas.Bool.{both_ways, and_parts, or_parts, or_left, or_right, and_cases, false_from_ne_true, and_from, eqb-true, eq-eqb}
-use Rattle.std.specs.Int.{int_wrap, w64}
 use Rattle.std.specs.Ordering.{is_eq}
 use Rattle.std.specs.declared.cmp.Ordering.{Ordering}
 use Rattle.std.specs.declared.cmp.Ordering.TheVariants.{Less, Equal, Greater}
@@ -9,50 +8,12 @@ use Rattle.std.specs.Cmp.{tied_itself, int_cmp_total}
 use Rattle.std.specs.Cmp.Lexicographic.{lists_total}
 use Rattle.std.specs.FinMap.{slice_cmp-IsAntisymmetric, int_cmp-IsAntisymmetric}
 use Rattle.ch_nest.specs.declared.nest.Access.{Access}
-use Rattle.ch_nest.specs.declared.nest.Expr.{Expr}
-use Rattle.ch_nest.specs.declared.nest.Expr.TheOpen.{Expr-F}
-use Rattle.ch_nest.specs.declared.nest.Expr.TheFolds.{fold-roll-Expr, ind-Expr}
-use Rattle.ch_nest.specs.declared.nest.Expr.{map-Expr}
+use Rattle.ch_timed.proofs.Values.{Agree, each_parts, same_value}
 use Rattle.ch_timed.specs.Members.{Each}
 use Rattle.ch_timed.specs.declared.element.Cell.{Cell}
 use Rattle.ch_timed.specs.Timed.{Step}
-use Rattle.ch_timed.specs.Conflict.{cell_of, cells_of, same_cell, has_cell, writes_cell, clash, chosen, conflict, reads, reads_step, written}
-use Rattle.ch_timed.specs.Do.{Store, right_value, value_step, execute}
-
--- the stores agree on what is read
-abbrev pub Agree : List ℤ → Store → Store → List Access → Type 0
-Agree iters s t accesses = Each (λ a. s (cell_of iters a) ≡ t (cell_of iters a)) accesses
-
-each_parts : {X : Type 0} (P : X → Type 0) (xs ys : List X) → Each P (xs ++ ys) → Each P xs × Each P ys
-each_parts P [] ys h = (tt, h)
-each_parts P (x ∷ xs) ys h = let r = each_parts P xs ys h.1 in ((h.0, r.0), r.1)
-
-module _ (iters : List ℤ) (s t : Store) where
-  abbrev Same : Expr → Type 0
-  Same x = Agree iters s t (reads x) → right_value iters s x ≡ right_value iters t x
-
-  abbrev Known : Type 0
-  Known = (x : Expr) × Same x
-
-  abbrev bare : Known → Expr
-  bare e = e.0
-
-  layer : (y : Expr-F Known) → Agree iters s t (reads_step (map-Expr Expr (List Access) reads (map-Expr Known Expr bare y)))
-      → value_step iters s (map-Expr Expr ℤ (right_value iters s) (map-Expr Known Expr bare y)) ≡ value_step iters t (map-Expr Expr ℤ (right_value iters t) (map-Expr Known Expr bare y))
-  layer (Expr-F.Number n) h = refl
-  layer (Expr-F.Iter k) h = refl
-  layer (Expr-F.Read a) h = h.0
-  layer (Expr-F.Neg x) h = ap (λ v. int_wrap w64 (neg_ℤ v)) (x.1 h)
-  layer (Expr-F.Add x y) h = let p = each_parts _ _ _ h in ap₂ (λ v w. int_wrap w64 (v +ℤ w)) (x.1 p.0) (y.1 p.1)
-  layer (Expr-F.Sub x y) h = let p = each_parts _ _ _ h in ap₂ (λ v w. int_wrap w64 (v -ℤ w)) (x.1 p.0) (y.1 p.1)
-  layer (Expr-F.Mul x y) h = let p = each_parts _ _ _ h in ap₂ (λ v w. int_wrap w64 (v *ℤ w)) (x.1 p.0) (y.1 p.1)
-
-  pub same_value : (x : Expr) → Same x
-  same_value = ind-Expr Same (λ x y is h.
-      let g : Agree iters s t (reads_step (map-Expr Expr (List Access) reads x)) = subst (Agree iters s t) (fold-roll-Expr (List Access) reads_step x) h in
-      fold-roll-Expr ℤ (value_step iters s) x
-      ∙ subst (λ z. Agree iters s t (reads_step (map-Expr Expr (List Access) reads z)) → value_step iters s (map-Expr Expr ℤ (right_value iters s) z) ≡ value_step iters t (map-Expr Expr ℤ (right_value iters t) z)) is (layer y) g
-      ∙ sym (fold-roll-Expr ℤ (value_step iters t) x))
+use Rattle.ch_timed.specs.Conflict.{cell_of, cells_of, same_cell, has_cell, writes_cell, clash, chosen, conflict, reads, written}
+use Rattle.ch_timed.specs.Do.{Store, execute}
 
 -- cells
 pub is_eq_Equal : (o : Ordering) → is_eq o ≡ true → o ≡ Equal
@@ -98,11 +59,11 @@ same_cell_sym c d h = subst (λ e. same_cell e c ≡ true) (same_cell_is c d h) 
 pub same_cell_turned : (c d : Cell) → same_cell c d ≡ false → same_cell d c ≡ false
 same_cell_turned c d h = false_from_ne_true _ (λ e. both_ways _ h (same_cell_sym d c e))
 
-each_kept : {X : Type 0} (P Q : X → Type 0) (xs : List X) → ((x : X) → P x → Q x) → Each P xs → Each Q xs
+pub each_kept : {X : Type 0} (P Q : X → Type 0) (xs : List X) → ((x : X) → P x → Q x) → Each P xs → Each Q xs
 each_kept P Q [] f h = tt
 each_kept P Q (x ∷ xs) f h = (f x h.0, each_kept P Q xs f h.1)
 
-each_map : {X Y : Type 0} (P : Y → Type 0) (f : X → Y) (xs : List X) → Each P (map f xs) → Each (λ x. P (f x)) xs
+pub each_map : {X Y : Type 0} (P : Y → Type 0) (f : X → Y) (xs : List X) → Each P (map f xs) → Each (λ x. P (f x)) xs
 each_map P f [] h = tt
 each_map P f (x ∷ xs) h = (h.0, each_map P f xs h.1)
 
@@ -139,12 +100,12 @@ apart_from a b h =
       ours = each_kept _ _ ours (λ c e. not_written c wb theirs (writes_cell c (cells_of a)) e) all.0;
     }
 
-unwritten : (iters : List ℤ) (b : Step) (s : Store) (accesses : List Access)
+pub unwritten : (iters : List ℤ) (b : Step) (s : Store) (accesses : List Access)
     → Each (λ c. same_cell c (written b) ≡ false) (map (cell_of iters) accesses) → Agree iters (execute b s) s accesses
 unwritten iters b s accesses h =
     each_kept _ _ accesses (λ a e. rw e refl) (each_map (λ c. same_cell c (written b) ≡ false) (cell_of iters) accesses h)
 
-picks : (p q : Bool) (x y x' y' z : ℤ) → (p ≡ true → q ≡ true → ⊥) → x' ≡ x → y' ≡ y
+pub picks : (p q : Bool) (x y x' y' z : ℤ) → (p ≡ true → q ≡ true → ⊥) → x' ≡ x → y' ≡ y
     → (if p then x' else (if q then y else z)) ≡ (if q then y' else (if p then x else z))
 picks true true x y x' y' z n e f = absurd (n refl refl)
 picks true false x y x' y' z n e f = e

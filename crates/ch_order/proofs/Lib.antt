@@ -1,3 +1,4 @@
+pub mod Agreements
 pub mod Before
 pub mod Clashes
 pub mod Commutes
@@ -8,10 +9,11 @@ pub mod Held
 pub mod Kept
 pub mod Law
 pub mod Least
+pub mod LeastBy
+pub mod LeastReversed
 pub mod Legal
 pub mod Loops
 pub mod Members
-pub mod Places
 pub mod SampleLists
 pub mod Steps
 pub mod Walks

@@ -1,4 +1,6 @@
 pub mod Legal
+pub mod Agreement
+pub mod Reversed
 pub mod WideNumbers
 pub mod Walk
 pub mod Samples

@@ -1,20 +1,19 @@
 //! Whether two timed lists have the same meaning. The lists are walked from vector to vector and never stored; the number of
 //! calls of `Timed::after` is at most about the third power of their length.
 
-ghost use Rattle.std.specs.Prelude.{◌≡◌, ◌↔◌, ◌∷◌, [], ℤ, IfOk, IsTrue, List, MatchOption, is_some};
-ghost use Rattle.ch_nest.specs.declared.nest.ArrayDecl.{ArrayDecl};
-ghost use Rattle.ch_order.specs.Legal.{AreAmong, IsLegal, StaysInside, steps};
+ghost use Rattle.std.specs.Prelude.{◌≡◌, ◌↔◌, ◌∷◌, [], ℕ, ℤ, IfOk, IsTrue, List, MatchOption, is_some};
+ghost use Rattle.ch_order.specs.Legal.{AreAmong, IsLegal, IsLegalBy, steps};
 ghost use Rattle.ch_order.specs.Walk.{rest};
-ghost use Rattle.ch_timed.specs.Conflict.{conflict, reversed};
 ghost use Rattle.ch_timed.specs.Do.{Store, done};
-ghost use Rattle.ch_timed.specs.Flat.{done_flat};
+ghost use Rattle.ch_timed.specs.Flat.{StaysInside, done_flat};
 ghost use Rattle.ch_timed.specs.Members.{In};
+ghost use Rattle.ch_timed.specs.Order as order;
 ghost use Rattle.ch_timed.specs.Order.{is_before, overtaken, overtakes};
 ghost use Rattle.ch_timed.specs.Timed.{is_well_formed, same_step, step};
 
 use crate::bodies::same_body;
-use crate::cells::conflicts;
 use crate::numbers::same_identity;
+use crate::rule::{AllConflicts, KeepOrder};
 use ch_affine::List;
 use ch_timed::{Element, Timed};
 use std::alloc::{AllocError, Global};
@@ -99,8 +98,8 @@ fn stands_before<T: Timed>(
     Ok(false)
 }
 
-/// Whether both conflict and b stands before a in the list.
-fn overtakes<T: Timed>(
+/// Whether the two must keep their order and b stands before a in the list.
+fn overtakes<T: Timed, C: KeepOrder>(
     alloc: Global,
     list: &T,
     b: &Element,
@@ -109,16 +108,16 @@ fn overtakes<T: Timed>(
     requires { IsTrue (is_well_formed (T.list list.now)) }
     ensures { IfOk result (λ t. t ≡ is_some (overtaken
         (is_before same_step (step b.now) (step a.now) (steps (T.list list.now)))
-        (step a.now) (step b.now) (conflict (step a.now) (step b.now)))) }
+        (step a.now) (step b.now) (C.conflict (step a.now) (step b.now)))) }
 {
-    if !conflicts(a, b) {
+    if !C::must_keep(a, b) {
         return Ok(false);
     }
     stands_before(alloc, list, b, a)
 }
 
 /// Whether an element of the old list that comes after a has overtaken it in the new list.
-fn is_overtaken<A: Timed, B: Timed>(
+fn is_overtaken<A: Timed, B: Timed, C: KeepOrder>(
     alloc: Global,
     a: &Element,
     old: &A,
@@ -126,12 +125,12 @@ fn is_overtaken<A: Timed, B: Timed>(
 ) -> Result<bool, AllocError>
     requires old { IsTrue (is_well_formed (A.list old.now)) }
     requires new { IsTrue (is_well_formed (B.list new.now)) }
-    ensures { IfOk result (λ t. t ≡ is_some (overtakes same_step conflict
+    ensures { IfOk result (λ t. t ≡ is_some (overtakes same_step C.conflict
         (step a.now) (steps (rest a.now.vector (A.list old.now))) (steps (B.list new.now)))) }
 {
     let mut at = List::from_slice(alloc, a.vector.as_slice())?;
     while let Some(b) = next(alloc, old, at.as_slice())? {
-        if overtakes(alloc, new, &b, a)? {
+        if overtakes::<B, C>(alloc, new, &b, a)? {
             return Ok(true);
         }
         at = into_vector(b);
@@ -139,20 +138,47 @@ fn is_overtaken<A: Timed, B: Timed>(
     Ok(false)
 }
 
-/// Whether a pair of conflicting elements is the other way round in the new list.
-fn has_reversed<A: Timed, B: Timed>(alloc: Global, old: &A, new: &B) -> Result<bool, AllocError>
+/// Whether a pair that must keep its order is the other way round in the new list.
+fn has_reversed<A: Timed, B: Timed, C: KeepOrder>(
+    alloc: Global,
+    old: &A,
+    new: &B,
+) -> Result<bool, AllocError>
     requires old { IsTrue (is_well_formed (A.list old.now)) }
     requires new { IsTrue (is_well_formed (B.list new.now)) }
-    ensures { IfOk result (λ t. t ≡ is_some (reversed (A.list old.now) (B.list new.now))) }
+    ensures { IfOk result (λ t. t ≡ is_some (order.reversed same_step C.conflict
+        (steps (A.list old.now)) (steps (B.list new.now)))) }
 {
     let mut at = List::new(alloc);
     while let Some(a) = next(alloc, old, at.as_slice())? {
-        if is_overtaken(alloc, &a, old, new)? {
+        if is_overtaken::<A, B, C>(alloc, &a, old, new)? {
             return Ok(true);
         }
         at = into_vector(a);
     }
     Ok(false)
+}
+
+/// Whether two timed lists have the same steps, each once, and no two of them that must keep their order by
+/// the given rule stand the other way round. `Err` where memory runs out.
+pub fn same_meaning_by<A: Timed, B: Timed, C: KeepOrder>(
+    alloc: Global,
+    old: &A,
+    new: &B,
+) -> Result<bool, AllocError>
+    ensures { IfOk result (λ t. IsTrue t
+        ↔ IsLegalBy C.conflict (A.list old.now) (B.list new.now)) }
+{
+    old.known();
+    new.known();
+    if !has_steps(alloc, old, new)? {
+        return Ok(false);
+    }
+    if !has_steps(alloc, new, old)? {
+        return Ok(false);
+    }
+    let reversed = has_reversed::<A, B, C>(alloc, old, new)?;
+    Ok(!reversed)
 }
 
 /// Whether two timed lists have the same steps, each once, and no two of them that conflict stand the other way round.
@@ -164,17 +190,8 @@ pub fn same_meaning<A: Timed, B: Timed>(alloc: Global, old: &A, new: &B) -> Resu
     ensures store { IfOk result (λ t. IsTrue t → (store : Store)
         → done (A.list old.now) store ≡ done (B.list new.now) store) }
     ensures flat { IfOk result (λ t. IsTrue t
-        → (arrays : List ArrayDecl) → StaysInside arrays (A.list old.now) → (cells : List ℤ)
-        → done_flat arrays (A.list old.now) cells ≡ done_flat arrays (B.list new.now) cells) }
+        → (extents : List (List ℕ)) → StaysInside extents (A.list old.now) → (cells : List ℤ)
+        → done_flat extents (A.list old.now) cells ≡ done_flat extents (B.list new.now) cells) }
 {
-    old.known();
-    new.known();
-    if !has_steps(alloc, old, new)? {
-        return Ok(false);
-    }
-    if !has_steps(alloc, new, old)? {
-        return Ok(false);
-    }
-    let reversed = has_reversed(alloc, old, new)?;
-    Ok(!reversed)
+    same_meaning_by::<A, B, AllConflicts>(alloc, old, new)
 }

@@ -5,7 +5,8 @@ ghost use Rattle.ch_order.specs.Samples.{body, instance, named, pair, parity};
 ghost use Rattle.ch_timed.specs.Vectors.{comes_before};
 
 use crate::{
-    arrays_hold_the_store, legal_does_same, legal_steps_do_same, neighbours_change_places,
+    arrays_hold_the_store, keeping_arrays_composes, kept_arrays_are_equal, legal_does_same,
+    legal_list_runs_the_nest, legal_steps_do_same, neighbours_change_places, reversed_is_least,
     same_meaning,
 };
 use ch_affine::{Aff, List};
@@ -145,9 +146,13 @@ fn turned(i: i64, number: i64) -> Pair
 #[test]
 fn laws_are_called() {
     legal_does_same();
+    keeping_arrays_composes();
+    kept_arrays_are_equal();
     legal_steps_do_same();
     neighbours_change_places();
     arrays_hold_the_store();
+    reversed_is_least();
+    legal_list_runs_the_nest();
 }
 
 #[test]
