@@ -8,7 +8,7 @@ use Rattle.ch_affine.specs.Form.{Form}
 use Rattle.ch_affine.specs.declared.system.Range.{Range}
 use Rattle.ch_lex.specs.Cut.{IsCut}
 use Rattle.ch_lex.specs.declared.error.Code2.{Code2}
-use Rattle.ch_lex.specs.declared.error.Code2.TheVariants.{P1, P2, P3, P4, P5, P6, A1, D8}
+use Rattle.ch_lex.specs.declared.error.Code2.TheVariants.{P1, P2, P3, P4, P5, P6, P7, A1, D8}
 use Rattle.ch_lex.specs.declared.error.ParseError.{ParseError}
 use Rattle.ch_lex.specs.declared.error.ParseError.TheVariants.{Memory, Refused}
 use Rattle.ch_lex.specs.declared.keyword.Keyword.{Keyword}
@@ -17,11 +17,11 @@ use Rattle.ch_lex.specs.declared.token.Sign.{Sign}
 use Rattle.ch_lex.specs.declared.token.Sign.TheVariants as signs
 use Rattle.ch_lex.specs.declared.token.Token.{Token}
 use Rattle.ch_nest.specs.Arrays.{cells_in}
-use Rattle.ch_nest.specs.Limits.{most_affine, most_nesting, most_operands, most_statements, deepest}
-use Rattle.ch_nest.specs.Shape.{high_end, is_at_most, low_end}
+use Rattle.ch_nest.specs.Limits.{most_affine, most_conditions, most_nesting, most_operands, most_statements, deepest}
+use Rattle.ch_nest.specs.Shape.{high_end, is_at_most, low_end, step_fits}
 use Rattle.ch_nest.specs.declared.nest.Expr.{Expr}
 use Rattle.ch_nest.specs.declared.nest.Expr.TheVariants as exprs
-use Rattle.ch_nest.specs.declared.nest.Item.TheVariants.{Loop, Assign}
+use Rattle.ch_nest.specs.declared.nest.Item.TheVariants.{Loop, If, Assign}
 use Rattle.ch_nest.specs.declared.nest.Sub.{Sub}
 use Rattle.ch_nestparse.specs.declared.ahead.Ending.{Ending}
 use Rattle.ch_nestparse.specs.declared.ahead.Ending.TheVariants as endings
@@ -37,11 +37,13 @@ use Rattle.ch_nestparse.specs.Accesses.{accesses_in, begins_access, with_place}
 use Rattle.ch_nestparse.specs.Declarations.{array_at, arrays_at, begins_array, begins_let, extent_at, extent_if, extents_at, fill_at, fitting, is_extent, let_at, lets_at, no_arrays, opens_bracket}
 use Rattle.ch_nestparse.specs.Expressions.{Counted, Reader, Sort, begins_operand, behind, behind_minus, between_parens, chain, counted_operand, expression, factor, factor_sign, fits_behind, opened, opening, product, star_after, step, sum, summand, term, term_sign, unary}
 use Rattle.ch_nestparse.specs.Forms.{form_at, iterator_part, joined_parts, limit, named_part, narrow, narrow_if, number_part, number_part_if, operand_part, parts, times}
+use Rattle.ch_nestparse.specs.declared.conditions.Relation.TheVariants as relations
+use Rattle.ch_nestparse.specs.Conditions.{condition_at, relation_if, row_of}
 use Rattle.ch_nestparse.specs.Gives.{Fails}
-use Rattle.ch_nestparse.specs.Heads.{bounded, bounded_if, ends_at, head_at, high_at, last_of, low_at, more_at, next_is_comma, same_name_at, several_at, single_at, step_at, strict_if}
+use Rattle.ch_nestparse.specs.Heads.{bounded, bounded_if, ends_at, head_at, high_at, last_of, low_at, more_at, next_at, next_is_comma, number_step_at, same_name_at, several_at, single_at, step_at, strict_if}
 use Rattle.ch_nestparse.specs.Inside.{IsWithin}
-use Rattle.ch_nestparse.specs.Items.{Items, assign_at, body_at, is_more, item_at, items_at, loop_at, written}
-use Rattle.ch_nestparse.specs.Read.{◌>>=◌, Names, Read, begins, choose, find_name, fresh_at, guarded, integer_at, is_new, keyword_at, name_at, name_if, next_is, number_at, number_if, place, refused, repeated, seen, sign_at, text_at}
+use Rattle.ch_nestparse.specs.Items.{Items, assign_at, body_at, cif_at, is_more, item_at, item_by, items_at, loop_at, written}
+use Rattle.ch_nestparse.specs.Read.{◌>>=◌, Names, Read, begins, begins_if, choose, find_name, fresh_at, guarded, integer_at, is_new, keyword_at, name_at, name_if, next_is, number_at, number_if, place, refused, repeated, seen, sign_at, text_at}
 use Rattle.ch_nestparse.specs.Rights.{access_at, always, joined_right, named_right, operand_right, right_at, rights, sub_at}
 use Rattle.ch_nestparse.specs.Sections.{Section, before, section_at}
 use Rattle.ch_nestparse.proofs.Posts.{Post, post_bind, post_err, post_ok}
@@ -60,11 +62,11 @@ module _ (bytes : List ℕ) where
   inside_place [] h = omega arith
   inside_place (t ∷ ts) h = let l = h.0 in omega (arith, l)
 
-  abbrev Refuses : {X : Type 0} → Result X ParseError → Type 0
+  abbrev pub Refuses : {X : Type 0} → Result X ParseError → Type 0
   Refuses r = (e : ParseError) → r ≡ Err e → IsWithin (length bytes) e
 
   -- a reading that gives such a value, or is refused at a place of the text
-  abbrev Placed : {X : Type 0} → (X → Type 0) → Result X ParseError → Type 0
+  abbrev pub Placed : {X : Type 0} → (X → Type 0) → Result X ParseError → Type 0
   Placed P r = Post P r × Refuses r
 
   -- a value and tokens after it that begin in the text
@@ -81,23 +83,23 @@ module _ (bytes : List ℕ) where
   refuses_bind (Ok x) f p q e h = q x (p.0 x refl) e h
   refuses_bind (Err d) f p q e h = let s : d ≡ e = cc in p.1 e (ap Err s)
 
-  placed_ok : {X : Type 0} (P : X → Type 0) (x : X) → P x → Placed P (Ok x)
+  pub placed_ok : {X : Type 0} (P : X → Type 0) (x : X) → P x → Placed P (Ok x)
   placed_ok P x p = (post_ok P x p, refuses_ok x)
 
-  placed_err : {X : Type 0} (P : X → Type 0) (code : Code2) (at : ℕ) (value : ℤ) → at ≤ length bytes → Placed P (Err (Refused code at value))
+  pub placed_err : {X : Type 0} (P : X → Type 0) (code : Code2) (at : ℕ) (value : ℤ) → at ≤ length bytes → Placed P (Err (Refused code at value))
   placed_err P code at value l = (post_err P (Refused code at value), refuses_err code at value l)
 
-  placed_bind : {A B : Type 0} {P : A → Type 0} {Q : B → Type 0} {r : Result A ParseError} {f : A → Result B ParseError} → Placed P r → ((x : A) → P x → Placed Q (f x)) → Placed Q (r >>= f)
+  pub placed_bind : {A B : Type 0} {P : A → Type 0} {Q : B → Type 0} {r : Result A ParseError} {f : A → Result B ParseError} → Placed P r → ((x : A) → P x → Placed Q (f x)) → Placed Q (r >>= f)
   placed_bind {r = r} {f = f} p q = (post_bind p.0 (λ x h. (q x h).0), refuses_bind r f p (λ x h. (q x h).1))
 
   placed_any : {X : Type 0} {r : Result X ParseError} → Refuses r → Placed (λ x. Unit {0}) r
   placed_any h = (λ x e. tt, h)
 
-  placed_guarded : {X : Type 0} {P : X → Type 0} (test : Bool) (code : Code2) (at : ℕ) (read : Unit {0} → Result X ParseError) → at ≤ length bytes → Placed P (read tt) → Placed P (guarded test code at read)
+  pub placed_guarded : {X : Type 0} {P : X → Type 0} (test : Bool) (code : Code2) (at : ℕ) (read : Unit {0} → Result X ParseError) → at ≤ length bytes → Placed P (read tt) → Placed P (guarded test code at read)
   placed_guarded true code at read l p = p
   placed_guarded {P = P} false code at read l p = placed_err P code at (pos 0) l
 
-  placed_choose : {X : Type 0} {P : X → Type 0} (test : Bool) (this that : Unit {0} → Result X ParseError) → Placed P (this tt) → Placed P (that tt) → Placed P (choose test this that)
+  pub placed_choose : {X : Type 0} {P : X → Type 0} (test : Bool) (this that : Unit {0} → Result X ParseError) → Placed P (this tt) → Placed P (that tt) → Placed P (choose test this that)
   placed_choose true this that p q = p
   placed_choose false this that p q = q
 
@@ -493,12 +495,45 @@ module _ (bytes : List ℕ) where
       placed_bind (bounded_placed at (high_end boxes low (map (last_of strict.0) forms.0)) l) (λ end c.
       placed_ok (λ x. Inside x.1) (record { forms = map (last_of strict.0) forms.0; end = end }, forms.1) b)))
 
-  step_at_placed : (name : List ℕ) (ts : List Token) → Inside ts → Placed Inside (step_at bytes name ts)
+  number_step_placed : (name : List ℕ) (lows : List Form) (ts : List Token) → Inside ts → Reads (number_step_at bytes name lows ts)
+  unfolding number_step_at
+  number_step_placed name lows ts h =
+      placed_bind (sign_placed P1 signs.Equals ts h) (λ equals a.
+      placed_bind (same_name_placed name equals a) (λ again b.
+      placed_bind (sign_placed P1 signs.Plus again b) (λ plus c.
+      placed_bind (number_placed P1 plus c) (λ step d.
+      placed_guarded (step_fits step.0 lows) P7 (place bytes plus) (λ _. Ok step) (inside_place plus c) (placed_ok (λ x. Inside x.1) step d)))))
+
+  next_placed : (name : List ℕ) (lows : List Form) (ts : List Token) → Inside ts → Reads (next_at bytes name lows ts)
+  unfolding next_at
+  next_placed name lows ts h =
+      placed_choose (next_is bytes signs.Increment ts) (λ _. Ok (1, drop 1 ts)) (λ _. number_step_at bytes name lows ts)
+      (placed_ok (λ x. Inside x.1) (1, drop 1 ts) (inside_drop ts h)) (number_step_placed name lows ts h)
+
+  step_at_placed : (name : List ℕ) (lows : List Form) (ts : List Token) → Inside ts → Reads (step_at bytes name lows ts)
   unfolding step_at
-  step_at_placed name ts h =
-      placed_bind (same_name_placed name ts h) (λ step a.
-      placed_bind (sign_placed P1 signs.Increment step a) (λ close b.
-      sign_placed P1 signs.RightParen close b))
+  step_at_placed name lows ts h =
+      placed_bind (same_name_placed name ts h) (λ third a.
+      placed_bind (next_placed name lows third a) (λ step b.
+      placed_bind (sign_placed P1 signs.RightParen step.1 b) (λ rest c.
+      placed_ok (λ x. Inside x.1) (step.0, rest) c)))
+
+  relation_placed : (look : Look) (at : ℕ) (ts : List Token) → at ≤ length bytes → Inside ts → Reads (relation_if look at ts)
+  relation_placed (looks.Sign signs.Less) at ts l h = placed_ok (λ x. Inside x.1) (relations.Less, ts) h
+  relation_placed (looks.Sign signs.AtMost) at ts l h = placed_ok (λ x. Inside x.1) (relations.AtMost, ts) h
+  relation_placed (looks.Sign signs.More) at ts l h = placed_ok (λ x. Inside x.1) (relations.More, ts) h
+  relation_placed (looks.Sign signs.AtLeast) at ts l h = placed_ok (λ x. Inside x.1) (relations.AtLeast, ts) h
+  relation_placed other at ts l h = placed_err (λ x. Inside x.1) P1 at (pos 0) l
+
+  condition_placed : (names : Names) (levels : ℕ) (ts : List Token) → Inside ts → Reads (condition_at bytes names levels ts)
+  unfolding condition_at
+  condition_placed names levels ts h =
+      placed_bind (sign_placed P1 signs.LeftParen ts h) (λ paren a.
+      placed_bind (form_placed names levels most_nesting endings.Related paren a) (λ left b.
+      placed_bind (relation_placed (seen bytes left.1) (place bytes left.1) (drop 1 left.1) (inside_place left.1 b) (inside_drop left.1 b)) (λ relation c.
+      placed_bind (form_placed names levels most_nesting endings.Paren relation.1 c) (λ right d.
+      placed_bind (sign_placed P1 signs.RightParen right.1 d) (λ rest e.
+      placed_ok (λ x. Inside x.1) (row_of relation.0 left.0 right.0, rest) e)))))
 
   head_placed : (names : Names) (boxes : List Range) (at : ℕ) (ts : List Token) → at ≤ length bytes → Inside ts → Reads (head_at bytes names boxes at ts)
   unfolding head_at
@@ -511,8 +546,8 @@ module _ (bytes : List ℕ) where
       placed_bind (same_name_placed name.0 second e) (λ relation f.
       placed_bind (high_placed names boxes at low.0.end relation l f) (λ high g.
       placed_bind (sign_placed P1 signs.Semicolon high.1 g) (λ third i.
-      placed_bind (step_at_placed name.0 third i) (λ rest j.
-      placed_ok (λ x. Inside x.1) (record { name = name.0; lows = low.0.forms; highs = high.0.forms; box = record { low = low.0.end; high = high.0.end } }, rest) j)))))))))
+      placed_bind (step_at_placed name.0 low.0.forms third i) (λ step j.
+      placed_ok (λ x. Inside x.1) (record { name = name.0; lows = low.0.forms; highs = high.0.forms; step = step.0; box = record { low = low.0.end; high = high.0.end } }, step.1) j)))))))))
 
   -- items
 
@@ -553,18 +588,38 @@ module _ (bytes : List ℕ) where
   loop_placed item each names boxes at found ts l h =
       placed_bind (head_placed names boxes at ts l h) (λ head a.
       placed_bind (body_placed (item (names ++ (head.0.name, Iterator (length boxes)) ∷ []) (boxes ++ head.0.box ∷ [])) (each (names ++ (head.0.name, Iterator (length boxes)) ∷ []) (boxes ++ head.0.box ∷ [])) found.1 head.1 a) (λ body b.
-      placed_ok (λ x. Inside x.1) ((found.0 ++ Loop head.0.lows head.0.highs body.0.0 ∷ [], body.0.1), body.1) b))
+      placed_ok (λ x. Inside x.1) ((found.0 ++ Loop head.0.lows head.0.highs head.0.step body.0.0 ∷ [], body.0.1), body.1) b))
 
-  item_placed : (deeper : ℕ) (names : Names) (boxes : List Range) (found : Items) (ts : List Token) → Inside ts → Reads (item_at bytes deeper names boxes found ts)
+  cif_placed : (item : Items → List Token → Read Items) → ((s : Items) (ts : List Token) → Inside ts → Reads (item s ts)) → (names : Names) (levels : ℕ) (found : Items) (ts : List Token) → Inside ts
+      → Reads (cif_at bytes item names levels found ts)
+  unfolding cif_at
+  cif_placed item each names levels found ts h =
+      placed_bind (condition_placed names levels ts h) (λ row a.
+      placed_bind (body_placed item each found.1 row.1 a) (λ body b.
+      placed_ok (λ x. Inside x.1) ((found.0 ++ If row.0 body.0.0 ∷ [], body.0.1), body.1) b))
+
+  item_by_placed : (ts : List Token) (loop cif assign : Unit {0} → Read Items) → Reads (loop tt) → Reads (cif tt) → Reads (assign tt) → Reads (item_by bytes ts loop cif assign)
+  item_by_placed ts loop cif assign p q r =
+      placed_choose (begins bytes words.For ts) loop (λ _. choose (begins_if bytes ts) cif assign) p (placed_choose (begins_if bytes ts) cif assign q r)
+
+  item_placed : (ifs deeper : ℕ) (names : Names) (boxes : List Range) (found : Items) (ts : List Token) → Inside ts → Reads (item_at bytes ifs deeper names boxes found ts)
   unfolding item_at
-  item_placed zero names boxes found ts h =
-      placed_choose (begins bytes words.For ts) (λ _. refused P5 (place bytes ts)) (λ _. assign_at bytes names (length boxes) found ts)
+  item_placed zero zero names boxes found ts h =
+      item_by_placed ts (λ _. refused P5 (place bytes ts)) (λ _. refused P7 (place bytes ts)) (λ _. assign_at bytes names (length boxes) found ts)
+      (placed_err (λ x. Inside x.1) P5 (place bytes ts) (pos 0) (inside_place ts h)) (placed_err (λ x. Inside x.1) P7 (place bytes ts) (pos 0) (inside_place ts h)) (assign_placed names (length boxes) found ts h)
+  item_placed zero (suc deeper) names boxes found ts h =
+      item_by_placed ts (λ _. loop_at bytes (item_at bytes zero deeper) names boxes (place bytes ts) found (drop 1 ts)) (λ _. refused P7 (place bytes ts)) (λ _. assign_at bytes names (length boxes) found ts)
+      (loop_placed (item_at bytes zero deeper) (item_placed zero deeper) names boxes (place bytes ts) found (drop 1 ts) (inside_place ts h) (inside_drop ts h))
+      (placed_err (λ x. Inside x.1) P7 (place bytes ts) (pos 0) (inside_place ts h)) (assign_placed names (length boxes) found ts h)
+  item_placed (suc ifs) zero names boxes found ts h =
+      item_by_placed ts (λ _. refused P5 (place bytes ts)) (λ _. cif_at bytes (item_at bytes ifs zero names boxes) names (length boxes) found (drop 1 ts)) (λ _. assign_at bytes names (length boxes) found ts)
       (placed_err (λ x. Inside x.1) P5 (place bytes ts) (pos 0) (inside_place ts h))
-      (assign_placed names (length boxes) found ts h)
-  item_placed (suc deeper) names boxes found ts h =
-      placed_choose (begins bytes words.For ts) (λ _. loop_at bytes (item_at bytes deeper) names boxes (place bytes ts) found (drop 1 ts)) (λ _. assign_at bytes names (length boxes) found ts)
-      (loop_placed (item_at bytes deeper) (item_placed deeper) names boxes (place bytes ts) found (drop 1 ts) (inside_place ts h) (inside_drop ts h))
-      (assign_placed names (length boxes) found ts h)
+      (cif_placed (item_at bytes ifs zero names boxes) (item_placed ifs zero names boxes) names (length boxes) found (drop 1 ts) (inside_drop ts h)) (assign_placed names (length boxes) found ts h)
+  item_placed (suc ifs) (suc deeper) names boxes found ts h =
+      item_by_placed ts (λ _. loop_at bytes (item_at bytes (suc ifs) deeper) names boxes (place bytes ts) found (drop 1 ts))
+      (λ _. cif_at bytes (item_at bytes ifs (suc deeper) names boxes) names (length boxes) found (drop 1 ts)) (λ _. assign_at bytes names (length boxes) found ts)
+      (loop_placed (item_at bytes (suc ifs) deeper) (item_placed (suc ifs) deeper) names boxes (place bytes ts) found (drop 1 ts) (inside_place ts h) (inside_drop ts h))
+      (cif_placed (item_at bytes ifs (suc deeper) names boxes) (item_placed ifs (suc deeper) names boxes) names (length boxes) found (drop 1 ts) (inside_drop ts h)) (assign_placed names (length boxes) found ts h)
 
   -- a section
 
@@ -597,7 +652,7 @@ module _ (bytes : List ℕ) where
       placed_bind (sign_placed P1 signs.LeftBrace name.1 b) (λ inside c.
       placed_bind (lets_placed inside c) (λ lets d.
       placed_bind (arrays_placed lets.0 lets.1 d) (λ declared e.
-      placed_bind (items_placed (item_at bytes deepest declared.0.names []) (item_placed deepest declared.0.names []) ([], 0) declared.1 e) (λ items f.
+      placed_bind (items_placed (item_at bytes most_conditions deepest declared.0.names []) (item_placed most_conditions deepest declared.0.names []) ([], 0) declared.1 e) (λ items f.
       placed_ok (λ x. All InText x.0.accesses) (
         record {
           name = name.0;

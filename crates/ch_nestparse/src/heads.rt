@@ -1,15 +1,19 @@
 ghost use Rattle.std.specs.Prelude.{◌≡◌, ◌≤◌, ◌<◌, ◌^◌, ◌∷◌, [], length, map, true, IfOk, IsTrue, None};
 ghost use Rattle.std.specs.List.{All, list_all};
 ghost use Rattle.ch_nest.specs.Limits.{most_affine};
-ghost use Rattle.ch_nest.specs.Shape.{coefs_fit, constant_fits, form_fits, is_at_most, IsSmall};
+ghost use Rattle.ch_nest.specs.Shape.{coefs_fit, constant_fits, form_fits, is_at_most, step_fits, IsSmall};
 ghost use Rattle.ch_nestparse.specs.Gives.{Gives};
-ghost use Rattle.ch_nestparse.specs.Heads.{bounded, ends_at, head_at, high_at, last_of, low_at, more_at, next_is_comma, same_name_at, several_at, single_at, step_at, strict_if};
-ghost use Rattle.ch_nestparse.specs.Read.{find_name, repeated};
+ghost use Rattle.ch_nestparse.specs.Heads.{bounded, ends_at, head_at, high_at, last_of, low_at, more_at, next_at, next_is_comma, number_step_at, same_name_at, several_at, single_at, step_at, strict_if};
+ghost use Rattle.ch_nestparse.specs.Read.{find_name};
 
 use crate::affine::form;
-use crate::ahead::{Ending, Look, after, begins, name, next_is, place, refused, seen, sign};
-use crate::limits::{MORE_FORMS, MOST_AFFINE, MOST_NESTING};
-use crate::scope::{Names, fresh};
+use crate::ahead::{
+    Ending, Look, after, begins, name, next_is, number, place, refused, seen, sign,
+};
+use crate::around::Around;
+use crate::limits::{MORE_FORMS, MOST_AFFINE, MOST_NESTING, MOST_STEP};
+use crate::scope::fresh;
+use crate::series::{Readings, repeat};
 use ch_affine::{Aff, List, Range};
 use ch_lex::{Code2, Keyword, ParseError, Sign, Token};
 use ch_nest::boxes::{least_of_greatest, low_end};
@@ -22,89 +26,59 @@ pub struct Ends {
     pub end: i64,
 }
 
-/// `,` and one form more.
-#[tactic(auto, unfolding(crate::specs::Heads::more_at), using(crate::proofs::Fitting::forms_push))]
-fn more<'a>(
-    alloc: Global,
-    bytes: &[u8],
-    names: &Names,
-    levels: u32,
-    found: List<Aff>,
-    tokens: &'a [Token],
-) -> Result<(List<Aff>, &'a [Token]), ParseError>
-    requires short { length bytes.now < 2 ^ 32 }
-    requires levels { levels ≤ 6 }
-    requires found { IsTrue (list_all (form_fits levels) found) }
-    ensures exact { Gives (λ r. (r.0, r.1.now)) result (more_at bytes.now names.now levels found tokens.now) }
-    ensures fits { IfOk result (λ r. IsTrue (list_all (form_fits levels) r.0)) }
-{
-    let mut found = found;
-    let (form, rest) = form(
-        alloc,
-        bytes,
-        names,
-        levels,
-        MOST_NESTING,
-        Ending::Listed,
-        after(tokens),
-    )?;
-    found.push(form)?;
-    Ok((found, rest))
+/// The ends of a loop, its step, and the box of its iterator.
+#[derive(Drop)]
+pub(crate) struct Heading {
+    pub(crate) lows: List<Aff>,
+    pub(crate) highs: List<Aff>,
+    pub(crate) step: u32,
+    pub(crate) range: Range,
 }
 
-/// Up to three forms more.
-#[tactic(auto, using(crate::proofs::Repeats::repeat_more, crate::proofs::Repeats::repeat_fail, crate::proofs::Repeats::repeat_stop, crate::proofs::Repeats::repeat_end))]
-fn more_forms<'a>(
-    alloc: Global,
-    bytes: &[u8],
-    names: &Names,
-    levels: u32,
-    first: List<Aff>,
-    tokens: &'a [Token],
-) -> Result<(List<Aff>, &'a [Token]), ParseError>
-    requires short { length bytes.now < 2 ^ 32 }
-    requires levels { levels ≤ 6 }
-    requires first { IsTrue (list_all (form_fits levels) first) }
-    ensures exact { Gives (λ r. (r.0, r.1.now)) result (repeated (next_is_comma bytes.now) (more_at bytes.now names.now levels) 3 first tokens.now) }
-    ensures fits { IfOk result (λ r. IsTrue (list_all (form_fits levels) r.0)) }
-{
-    let mut found = first;
-    let mut rest = tokens;
-    for _k in 0..MORE_FORMS {
-        if !next_is(bytes, Sign::Comma, rest) {
-            return Ok((found, rest));
-        }
-        let (all, next) = more(alloc, bytes, names, levels, found, rest)?;
-        found = all;
-        rest = next;
+/// Forms that are listed behind the first, each behind a `,`.
+#[derive(Drop)]
+struct MoreForms<'r, 't, 's> {
+    around: &'r Around<'t, 's>,
+}
+
+impl Readings for MoreForms<'_, '_, '_> {
+    type State = List<Aff>;
+
+    ghost goes = { λ s. next_is_comma s.around.now.bytes.now };
+
+    ghost one = { λ s. more_at s.around.now.bytes.now s.around.now.names.now (length s.around.now.boxes.now) };
+
+    ghost keeps = { λ s found. IsTrue (list_all (form_fits (length s.around.now.boxes.now)) found) };
+
+    fn goes(&self, tokens: &[Token]) -> bool {
+        next_is(self.around.bytes, Sign::Comma, tokens)
     }
-    Ok((found, rest))
+
+    #[tactic(auto, unfolding(crate::specs::Heads::more_at), using(crate::proofs::Fitting::forms_push))]
+    fn one<'a>(
+        &self,
+        found: List<Aff>,
+        tokens: &'a [Token],
+    ) -> Result<(List<Aff>, &'a [Token]), ParseError> {
+        let mut found = found;
+        let inside = after(tokens);
+        let (form, rest) = form(self.around, MOST_NESTING, Ending::Listed, inside)?;
+        found.push(form)?;
+        Ok((found, rest))
+    }
 }
 
 /// One form.
 #[tactic(auto, unfolding(crate::specs::Heads::single_at), using(crate::proofs::Fitting::one_form))]
 fn single<'a>(
-    alloc: Global,
-    bytes: &[u8],
-    names: &Names,
-    levels: u32,
+    around: &Around<'_, '_>,
     tokens: &'a [Token],
 ) -> Result<(List<Aff>, &'a [Token]), ParseError>
-    requires short { length bytes.now < 2 ^ 32 }
-    requires levels { levels ≤ 6 }
-    ensures exact { Gives (λ r. (r.0, r.1.now)) result (single_at bytes.now names.now levels tokens.now) }
-    ensures fits { IfOk result (λ r. IsTrue (list_all (form_fits levels) r.0)) }
+    ensures exact { Gives (λ r. (r.0, r.1.now)) result (single_at around.now.bytes.now around.now.names.now (length around.now.boxes.now) tokens.now) }
+    ensures fits { IfOk result (λ r. IsTrue (list_all (form_fits (length around.now.boxes.now)) r.0)) }
 {
-    let mut forms = List::new(alloc);
-    let (form, rest) = form(
-        alloc,
-        bytes,
-        names,
-        levels,
-        MOST_NESTING,
-        Ending::Semicolon,
-        tokens,
-    )?;
+    let mut forms = List::new(around.alloc);
+    let (form, rest) = form(around, MOST_NESTING, Ending::Semicolon, tokens)?;
     forms.push(form)?;
     Ok((forms, rest))
 }
@@ -112,56 +86,38 @@ fn single<'a>(
 /// One to four forms in parentheses.
 #[tactic(auto, unfolding(crate::specs::Heads::several_at), using(crate::proofs::Fitting::one_form))]
 fn several<'a>(
-    alloc: Global,
-    bytes: &[u8],
-    names: &Names,
-    levels: u32,
+    around: &Around<'_, '_>,
     tokens: &'a [Token],
 ) -> Result<(List<Aff>, &'a [Token]), ParseError>
-    requires short { length bytes.now < 2 ^ 32 }
-    requires levels { levels ≤ 6 }
-    ensures exact { Gives (λ r. (r.0, r.1.now)) result (several_at bytes.now names.now levels tokens.now) }
-    ensures fits { IfOk result (λ r. IsTrue (list_all (form_fits levels) r.0)) }
+    ensures exact { Gives (λ r. (r.0, r.1.now)) result (several_at around.now.bytes.now around.now.names.now (length around.now.boxes.now) tokens.now) }
+    ensures fits { IfOk result (λ r. IsTrue (list_all (form_fits (length around.now.boxes.now)) r.0)) }
 {
-    let rest = sign(bytes, Code2::P1, Sign::LeftParen, tokens)?;
-    let mut forms = List::new(alloc);
-    let (first, rest) = form(
-        alloc,
-        bytes,
-        names,
-        levels,
-        MOST_NESTING,
-        Ending::Listed,
-        rest,
-    )?;
+    let rest = sign(around.bytes, Code2::P1, Sign::LeftParen, tokens)?;
+    let mut forms = List::new(around.alloc);
+    let (first, rest) = form(around, MOST_NESTING, Ending::Listed, rest)?;
     forms.push(first)?;
-    let (forms, rest) = more_forms(alloc, bytes, names, levels, forms, rest)?;
-    if next_is(bytes, Sign::Comma, rest) {
-        return Err(refused(Code2::P1, place(bytes, after(rest))));
+    let (forms, rest) = repeat(&MoreForms { around }, MORE_FORMS, forms, rest)?;
+    if next_is(around.bytes, Sign::Comma, rest) {
+        return Err(refused(Code2::P1, place(around.bytes, after(rest))));
     }
-    let rest = sign(bytes, Code2::P1, Sign::RightParen, rest)?;
+    let rest = sign(around.bytes, Code2::P1, Sign::RightParen, rest)?;
     Ok((forms, rest))
 }
 
 /// One form, or some behind `word`.
 #[tactic(auto, unfolding(crate::specs::Heads::ends_at))]
 fn end_forms<'a>(
-    alloc: Global,
-    bytes: &[u8],
+    around: &Around<'_, '_>,
     word: Keyword,
-    names: &Names,
-    levels: u32,
     tokens: &'a [Token],
 ) -> Result<(List<Aff>, &'a [Token]), ParseError>
-    requires short { length bytes.now < 2 ^ 32 }
-    requires levels { levels ≤ 6 }
-    ensures exact { Gives (λ r. (r.0, r.1.now)) result (ends_at bytes.now word names.now levels tokens.now) }
-    ensures fits { IfOk result (λ r. IsTrue (list_all (form_fits levels) r.0)) }
+    ensures exact { Gives (λ r. (r.0, r.1.now)) result (ends_at around.now.bytes.now word around.now.names.now (length around.now.boxes.now) tokens.now) }
+    ensures fits { IfOk result (λ r. IsTrue (list_all (form_fits (length around.now.boxes.now)) r.0)) }
 {
-    if begins(bytes, word, tokens) {
-        several(alloc, bytes, names, levels, after(tokens))
+    if begins(around.bytes, word, tokens) {
+        several(around, after(tokens))
     } else {
-        single(alloc, bytes, names, levels, tokens)
+        single(around, tokens)
     }
 }
 
@@ -189,22 +145,15 @@ fn bounded(at: u32, end: i128) -> Result<i64, ParseError>
 /// The low end of a loop. The box ends are refused at byte `at`.
 #[tactic(auto, unfolding(crate::specs::Heads::low_at), using(crate::proofs::Fitting::coefs_of))]
 fn low<'a>(
-    alloc: Global,
-    bytes: &[u8],
-    names: &Names,
-    boxes: &[Range],
+    around: &Around<'_, '_>,
     at: u32,
     tokens: &'a [Token],
 ) -> Result<(Ends, &'a [Token]), ParseError>
-    requires short { length bytes.now < 2 ^ 32 }
-    requires few { length boxes.now ≤ 6 }
-    requires boxes { All IsSmall boxes.now }
-    ensures exact { Gives (λ r. (r.0, r.1.now)) result (low_at bytes.now names.now boxes.now at tokens.now) }
+    ensures exact { Gives (λ r. (r.0, r.1.now)) result (low_at around.now.bytes.now around.now.names.now around.now.boxes.now at tokens.now) }
     ensures near { IfOk result (λ r. is_at_most most_affine r.0.end ≡ true) }
 {
-    let levels = boxes.len() as u32;
-    let (forms, rest) = end_forms(alloc, bytes, Keyword::Max, names, levels, tokens)?;
-    let end = bounded(at, low_end(boxes, forms.as_slice()))?;
+    let (forms, rest) = end_forms(around, Keyword::Max, tokens)?;
+    let end = bounded(at, low_end(around.boxes, forms.as_slice()))?;
     Ok((Ends { forms, end }, rest))
 }
 
@@ -260,71 +209,122 @@ fn lasts(alloc: Global, strict: bool, forms: &[Aff]) -> Result<List<Aff>, AllocE
 /// The relation of a loop and its high end, where its box begins at `low`.
 #[tactic(auto, unfolding(crate::specs::Heads::high_at), using(crate::proofs::Fitting::constants_of, crate::proofs::Fitting::lasts_fit))]
 fn high<'a>(
-    alloc: Global,
-    bytes: &[u8],
-    names: &Names,
-    boxes: &[Range],
+    around: &Around<'_, '_>,
     at: u32,
     low: i64,
     tokens: &'a [Token],
 ) -> Result<(Ends, &'a [Token]), ParseError>
-    requires short { length bytes.now < 2 ^ 32 }
-    requires few { length boxes.now ≤ 6 }
-    requires boxes { All IsSmall boxes.now }
-    ensures exact { Gives (λ r. (r.0, r.1.now)) result (high_at bytes.now names.now boxes.now at low tokens.now) }
+    ensures exact { Gives (λ r. (r.0, r.1.now)) result (high_at around.now.bytes.now around.now.names.now around.now.boxes.now at low tokens.now) }
     ensures near { IfOk result (λ r. is_at_most most_affine r.0.end ≡ true) }
 {
-    let levels = boxes.len() as u32;
-    let (strict, rest) = strict_if(seen(bytes, tokens), place(bytes, tokens), after(tokens))?;
-    let (written, rest) = end_forms(alloc, bytes, Keyword::Min, names, levels, rest)?;
-    let forms = lasts(alloc, strict, written.as_slice())?;
-    let end = i128::from(low).max(least_of_greatest(boxes, forms.as_slice()));
+    let (strict, rest) = strict_if(
+        seen(around.bytes, tokens),
+        place(around.bytes, tokens),
+        after(tokens),
+    )?;
+    let (written, rest) = end_forms(around, Keyword::Min, rest)?;
+    let forms = lasts(around.alloc, strict, written.as_slice())?;
+    let end = i128::from(low).max(least_of_greatest(around.boxes, forms.as_slice()));
     let end = bounded(at, end)?;
     Ok((Ends { forms, end }, rest))
 }
 
-/// The step of a loop, up to the closing parenthesis.
-#[tactic(auto, unfolding(crate::specs::Heads::step_at))]
-fn step<'a>(bytes: &[u8], text: &[u8], tokens: &'a [Token]) -> Result<&'a [Token], ParseError>
-    requires { length bytes.now < 2 ^ 32 }
-    ensures { Gives (λ r. r.now) result (step_at bytes.now text.now tokens.now) }
+/// Whether a loop may have this step, where its low end has these forms.
+fn step_fits(step: u32, lows: &[Aff]) -> bool
+    ensures { result ≡ step_fits step lows.now }
 {
-    let rest = same_name(bytes, text, tokens)?;
-    let rest = sign(bytes, Code2::P1, Sign::Increment, rest)?;
-    sign(bytes, Code2::P1, Sign::RightParen, rest)
+    (step >= 1 && step <= MOST_STEP) && (step == 1 || lows.len() == 1)
 }
 
-/// The head of a loop behind its `for`, which stands at byte `at`: its name, its ends, and the box of its iterator.
+/// What the value grows by, behind the loop's name, where the low end has these forms.
+#[tactic(auto, unfolding(crate::specs::Heads::number_step_at))]
+fn number_step<'a>(
+    bytes: &[u8],
+    text: &[u8],
+    lows: &[Aff],
+    tokens: &'a [Token],
+) -> Result<(u32, &'a [Token]), ParseError>
+    requires { length bytes.now < 2 ^ 32 }
+    ensures { Gives (λ r. (r.0, r.1.now)) result (number_step_at bytes.now text.now lows.now tokens.now) }
+{
+    let rest = sign(bytes, Code2::P1, Sign::Equals, tokens)?;
+    let rest = same_name(bytes, text, rest)?;
+    let before = sign(bytes, Code2::P1, Sign::Plus, rest)?;
+    let (step, rest) = number(bytes, Code2::P1, before)?;
+    if step_fits(step, lows) {
+        Ok((step, rest))
+    } else {
+        Err(refused(Code2::P7, place(bytes, before)))
+    }
+}
+
+/// What the value grows by, behind the loop's name.
+#[tactic(auto, unfolding(crate::specs::Heads::next_at))]
+fn next<'a>(
+    bytes: &[u8],
+    text: &[u8],
+    lows: &[Aff],
+    tokens: &'a [Token],
+) -> Result<(u32, &'a [Token]), ParseError>
+    requires { length bytes.now < 2 ^ 32 }
+    ensures { Gives (λ r. (r.0, r.1.now)) result (next_at bytes.now text.now lows.now tokens.now) }
+{
+    if next_is(bytes, Sign::Increment, tokens) {
+        Ok((1, after(tokens)))
+    } else {
+        number_step(bytes, text, lows, tokens)
+    }
+}
+
+/// The step of a loop, up to the closing parenthesis.
+#[tactic(auto, unfolding(crate::specs::Heads::step_at))]
+fn step<'a>(
+    bytes: &[u8],
+    text: &[u8],
+    lows: &[Aff],
+    tokens: &'a [Token],
+) -> Result<(u32, &'a [Token]), ParseError>
+    requires { length bytes.now < 2 ^ 32 }
+    ensures { Gives (λ r. (r.0, r.1.now)) result (step_at bytes.now text.now lows.now tokens.now) }
+{
+    let rest = same_name(bytes, text, tokens)?;
+    let (step, rest) = next(bytes, text, lows, rest)?;
+    let rest = sign(bytes, Code2::P1, Sign::RightParen, rest)?;
+    Ok((step, rest))
+}
+
+/// The head of a loop behind its `for`, which stands at byte `at`: its name, its ends, its step, and the box of its
+/// iterator.
 #[tactic(auto, unfolding(crate::specs::Heads::head_at))]
 pub(crate) fn head<'a, 'b>(
-    alloc: Global,
-    bytes: &'b [u8],
-    names: &Names,
-    boxes: &[Range],
+    around: &Around<'b, '_>,
     at: u32,
     tokens: &'a [Token],
-) -> Result<(&'b [u8], List<Aff>, List<Aff>, Range, &'a [Token]), ParseError>
-    requires short { length bytes.now < 2 ^ 32 }
-    requires few { length boxes.now ≤ 6 }
-    requires boxes { All IsSmall boxes.now }
-    ensures exact { Gives (λ r. (record { name = r.0.now; lows = r.1; highs = r.2; box = r.3 }, r.4.now)) result (head_at bytes.now names.now boxes.now at tokens.now) }
-    ensures absent { IfOk result (λ r. find_name r.0.now names.now ≡ None) }
-    ensures small { IfOk result (λ r. IsSmall r.3) }
+) -> Result<(&'b [u8], Heading, &'a [Token]), ParseError>
+    ensures exact { Gives (λ r. (record { name = r.0.now; lows = r.1.lows; highs = r.1.highs; step = r.1.step; box = r.1.range }, r.2.now)) result (head_at around.now.bytes.now around.now.names.now around.now.boxes.now at tokens.now) }
+    ensures absent { IfOk result (λ r. find_name r.0.now around.now.names.now ≡ None) }
+    ensures small { IfOk result (λ r. IsSmall r.1.range) }
 {
-    let rest = sign(bytes, Code2::P1, Sign::LeftParen, tokens)?;
-    let (text, rest) = fresh(bytes, names, rest)?;
-    let rest = sign(bytes, Code2::P1, Sign::Equals, rest)?;
-    let (lows, rest) = low(alloc, bytes, names, boxes, at, rest)?;
-    let rest = sign(bytes, Code2::P1, Sign::Semicolon, rest)?;
-    let rest = same_name(bytes, text, rest)?;
-    let (highs, rest) = high(alloc, bytes, names, boxes, at, lows.end, rest)?;
-    let rest = sign(bytes, Code2::P1, Sign::Semicolon, rest)?;
-    let rest = step(bytes, text, rest)?;
+    let rest = sign(around.bytes, Code2::P1, Sign::LeftParen, tokens)?;
+    let (text, rest) = fresh(around.bytes, around.names, rest)?;
+    let rest = sign(around.bytes, Code2::P1, Sign::Equals, rest)?;
+    let (lows, rest) = low(around, at, rest)?;
+    let rest = sign(around.bytes, Code2::P1, Sign::Semicolon, rest)?;
+    let rest = same_name(around.bytes, text, rest)?;
+    let (highs, rest) = high(around, at, lows.end, rest)?;
+    let rest = sign(around.bytes, Code2::P1, Sign::Semicolon, rest)?;
+    let (step, rest) = step(around.bytes, text, lows.forms.as_slice(), rest)?;
     let range = Range {
         low: lows.end,
         high: highs.end,
     };
     let Ends { forms: lows, .. } = lows;
     let Ends { forms: highs, .. } = highs;
-    Ok((text, lows, highs, range, rest))
+    let head = Heading {
+        lows,
+        highs,
+        step,
+        range,
+    };
+    Ok((text, head, rest))
 }
