@@ -1,5 +1,5 @@
 -- Each symbol of a printed program is a token of the language.
-use Rattle.std.proofs.Common.{◌≡◌, ℕ, suc, ◌+◌, ◌≤◌, ℤ, unsigned_abs, Bool, true, false, not, ◌&&◌, ◌||◌, nat_eq, nat_lt, List, [], ◌∷◌, ◌++◌, length, map, refl, sym, ap, ◌∙◌, arith}
+use Rattle.std.proofs.Common.{◌≡◌, ℕ, suc, ◌+◌, ◌≤◌, ℤ, unsigned_abs, Bool, true, false, not, ◌&&◌, ◌||◌, nat_eq, nat_lt, List, [], ◌∷◌, ◌++◌, length, map, codes, refl, sym, ap, ◌∙◌, arith}
 use Rattle.std.specs.Prelude.{nat_le}
 use Rattle.std.specs.Bool.{IsTrue}
 use Rattle.std.specs.List.{list_all, list_any, flat_map}
@@ -12,10 +12,10 @@ use Rattle.ch_lex.specs.declared.keyword.Keyword.{Keyword}
 use Rattle.ch_lex.specs.declared.keyword.Keyword.TheVariants as words
 use Rattle.ch_lex.specs.declared.token.Sign.{Sign}
 use Rattle.ch_lex.specs.declared.token.Sign.TheVariants as signs
-use Rattle.ch_nest.specs.Arrays.{cells_in, total}
-use Rattle.ch_nest.specs.Limits.{most_affine, most_cells}
+use Rattle.ch_nest.specs.Arrays.{cells_in, extents_of, total}
+use Rattle.ch_nest.specs.Limits.{most_affine, most_cells, most_conditions, most_step}
 use Rattle.ch_nest.specs.LoopNest.{LoopNest}
-use Rattle.ch_nest.specs.Shape.{access_fits, are_few, arrays_fit, body_fits, box_of, coefs_fit, constant_fits, expr_fits, form_fits, has_dimensions, head_fits, highs_fit, is_array, is_at_most, is_nest, is_operand, is_small, is_term, item_fits, item_fits_step, items_fit, lows_fit, parts_fit, parts_fit_step, raised_fits, sub_fits}
+use Rattle.ch_nest.specs.Shape.{access_fits, all_conditions_fit, are_few, arrays_fit, body_fits, box_of, coefs_fit, constant_fits, expr_fits, form_fits, has_dimensions, head_fits, highs_fit, is_array, is_at_most, is_nest, is_operand, is_small, is_term, item_fits, item_fits_step, items_fit, lows_fit, parts_fit, parts_fit_step, raised_fits, row_fits, step_fits, sub_fits}
 use Rattle.ch_nest.specs.declared.exprs.Standing.{Standing}
 use Rattle.ch_nest.specs.declared.exprs.Standing.TheVariants.{Term, Factor, Operand}
 use Rattle.ch_nest.specs.declared.nest.Access.{Access}
@@ -25,21 +25,23 @@ use Rattle.ch_nest.specs.declared.nest.Expr.{Expr}
 use Rattle.ch_nest.specs.declared.nest.Expr.TheVariants as exprs
 use Rattle.ch_nest.specs.declared.nest.Fill.{Fill}
 use Rattle.ch_nest.specs.declared.nest.Item.{Item}
-use Rattle.ch_nest.specs.declared.nest.Item.TheVariants.{Loop, Assign}
+use Rattle.ch_nest.specs.declared.nest.Item.TheVariants.{Loop, If, Assign}
 use Rattle.ch_nest.specs.declared.nest.Sub.{Sub}
 use Rattle.ch_nestparse.specs.Spelling.{is_fill, is_name, is_named}
 use Rattle.ch_nestparse.proofs.Nesting.{fold_add, fold_iter, fold_mul, fold_neg, fold_number, fold_read, fold_sub}
 use Rattle.ch_nestprint.specs.declared.symbol.Symbol.{Symbol}
 use Rattle.ch_nestprint.specs.declared.symbol.Symbol.TheVariants.{Name, Number, Key, Mark}
 use Rattle.ch_nestprint.specs.Cuts.{is_symbol}
-use Rattle.ch_nestprint.specs.Ends.{beginning_symbols, coef_if, coef_symbols, comma_end, constant_if, end_symbols, ends_symbols, form_symbols, head_symbols, highs_symbols, is_below, is_none, is_strict, lead, limit_symbols, listed, lows_symbols, raised_if, step_symbols, terms_symbols, times_if}
+use Rattle.ch_nestprint.specs.Conditions.{condition_symbols, is_low, sides_symbols}
+use Rattle.ch_nestprint.specs.Ends.{beginning_symbols, coef_if, coef_symbols, comma_end, constant_if, end_symbols, ends_symbols, form_symbols, head_symbols, highs_symbols, is_below, is_none, is_strict, lead, limit_symbols, listed, lows_symbols, next_if, next_symbols, raised_if, step_symbols, terms_symbols, times_if}
 use Rattle.ch_nestprint.specs.Minus.{minus_in, minus_in_item, minus_in_items, minus_item_step, minus_step, size_if}
-use Rattle.ch_nestprint.specs.Names.{array_name, iterator_name, longest, minus_name}
+use Rattle.ch_nestprint.specs.Names.{array_name, iterator_name, letters_for, minus_name}
 use Rattle.ch_nestprint.specs.Printable.{IsPrintable}
 use Rattle.ch_nestprint.specs.Printed.{array_symbols, arrays_symbols, assign_symbols, extent_symbols, fill_symbols, integer_if, integer_symbols, item_step, item_symbols, items_symbols, let_if, lets_symbols, program_symbols}
 use Rattle.ch_nestprint.specs.Sides.{access_symbols, closing, constant_symbol, joined_symbols, opening, right_step, right_symbols, sub_symbols}
-use Rattle.ch_nestprint.proofs.Cases.{Each, by_exprs, each_item, fold_assign, fold_loop}
-use Rattle.ch_nestprint.proofs.Spelling.{all_joined, all_mapped, array_named, iterator_named, minus_named}
+use Rattle.ch_nestprint.proofs.Cases.{Each, by_exprs, each_item, fold_assign, fold_if, fold_loop}
+use Rattle.ch_nestprint.proofs.Rows.{left_fits, left_side, raised_fits_row, raised_row, right_fits, right_side}
+use Rattle.ch_nestprint.proofs.Spelling.{all_joined, all_mapped, array_named, if_named, iterator_named, minus_named}
 
 abbrev AreTokens : List Symbol → Type 0
 AreTokens ss = list_all is_symbol ss ≡ true
@@ -145,17 +147,49 @@ highs_end depth highs h =
     ((and_parts (are_few highs) (list_all (coefs_fit depth) highs && (list_all constant_fits highs || list_all raised_fits highs)) h).1) in
     strict_ends (list_all constant_fits highs) depth highs refl parts.0 parts.1
 
-head_tokens : (letters level depth : ℕ) (lows highs : List Form) → head_fits depth lows highs ≡ true → AreTokens (head_symbols letters level lows highs)
-head_tokens letters level depth lows highs h =
+next_tokens : (alone : Bool) (name : List ℕ) (step : ℕ) → is_name name ≡ true → nat_le step most_number ≡ true → AreTokens (next_if alone name step)
+next_tokens true name step h g = refl
+next_tokens false name step h g = named name (Mark signs.Plus ∷ Number step ∷ []) h (counted step [] g refl)
+
+step_small : (step : ℕ) (lows : List Form) → step_fits step lows ≡ true → nat_le step most_number ≡ true
+step_small step lows h =
+    let few = and_parts (nat_le 1 step) (nat_le step most_step) ((and_parts (nat_le 1 step && nat_le step most_step) _ h).0) in
+    let small : step ≤ 64 = leb-true step most_step few.1 in
+    le-leb step most_number (omega arith)
+
+head_tokens : (letters level depth : ℕ) (lows highs : List Form) (step : ℕ) → head_fits depth lows highs step ≡ true → AreTokens (head_symbols letters level lows highs step)
+head_tokens letters level depth lows highs step h =
     let name = iterator_named letters level in
-    let parts = and_parts (lows_fit depth lows) (highs_fit depth highs) ((and_parts _ (lows_fit depth lows && highs_fit depth highs) h).1) in
+    let both = and_parts (lows_fit depth lows && highs_fit depth highs) (step_fits step lows) ((and_parts _ ((lows_fit depth lows && highs_fit depth highs) && step_fits step lows) h).1) in
+    let parts = and_parts (lows_fit depth lows) (highs_fit depth highs) both.0 in
     let beginning : AreTokens (beginning_symbols letters level lows) =
     named (iterator_name letters level) (Mark signs.Equals ∷ lows_symbols letters lows) name (ends_tokens letters depth words.Max false lows (lows_end depth lows parts.0)) in
     let limit : AreTokens (limit_symbols letters level highs) =
     named (iterator_name letters level) (highs_symbols letters highs) name (ends_tokens letters depth words.Min (is_strict highs) highs (highs_end depth highs parts.1)) in
-    let step : AreTokens (step_symbols letters level) = named (iterator_name letters level) (Mark signs.Increment ∷ Mark signs.RightParen ∷ []) name refl in
-    joined (beginning_symbols letters level lows ++ limit_symbols letters level highs) (step_symbols letters level)
-    (joined (beginning_symbols letters level lows) (limit_symbols letters level highs) beginning limit) step
+    let next : AreTokens (next_symbols (iterator_name letters level) step) =
+    named (iterator_name letters level) (next_if (nat_eq step 1) (iterator_name letters level) step) name
+    (next_tokens (nat_eq step 1) (iterator_name letters level) step name (step_small step lows both.1)) in
+    joined (beginning_symbols letters level lows ++ limit_symbols letters level highs) (step_symbols letters level step)
+    (joined (beginning_symbols letters level lows) (limit_symbols letters level highs) beginning limit)
+    (joined (Mark signs.Semicolon ∷ next_symbols (iterator_name letters level) step) (Mark signs.RightParen ∷ []) next refl)
+
+-- conditions
+
+abbrev side_symbols : ℕ → Form → List Symbol
+side_symbols letters f = form_symbols letters f.coefs f.constant
+
+sides_tokens : (letters depth : ℕ) (low : Bool) (row : Form) → form_fits depth (left_side row) ≡ true → form_fits depth (right_side row) ≡ true → AreTokens (sides_symbols letters low row.coefs row.constant)
+sides_tokens letters depth true row h g =
+    joined (side_symbols letters (left_side row)) (Mark signs.More ∷ side_symbols letters (right_side row)) (form_tokens letters depth (left_side row) h) (form_tokens letters depth (right_side row) g)
+sides_tokens letters depth false row h g =
+    joined (side_symbols letters (left_side row)) (Mark signs.AtLeast ∷ side_symbols letters (right_side row)) (form_tokens letters depth (left_side row) h) (form_tokens letters depth (right_side row) g)
+
+condition_tokens : (letters depth : ℕ) (row : Form) → row_fits depth row ≡ true → AreTokens (condition_symbols letters row)
+condition_tokens letters depth row h =
+    let raised = raised_row (is_low row) row in
+    let fits = raised_fits_row depth row h in
+    joined (Mark signs.LeftParen ∷ sides_symbols letters (is_low row) raised.coefs raised.constant) (Mark signs.RightParen ∷ [])
+    (sides_tokens letters depth (is_low row) raised (left_fits depth raised fits) (right_fits depth raised fits)) refl
 
 -- accesses and right sides
 
@@ -231,17 +265,27 @@ module _ (arrays : List ArrayDecl) (letters : ℕ) (have_names : list_all is_nam
       let parts = and_parts (item_fits arrays i boxes) (items_fit arrays is boxes) h in
       joined (item_symbols arrays letters i depth) (items_symbols arrays letters is depth) (fine.0 boxes parts.0 depth) (each_tokens is fine.1 boxes parts.1 depth)
 
-  loop_tokens : (lows highs : List Form) (items : List Item) → Each ItemFine items → ItemFine (Loop lows highs items)
-  loop_tokens lows highs items fine boxes h depth =
+  loop_tokens : (lows highs : List Form) (step : ℕ) (items : List Item) → Each ItemFine items → ItemFine (Loop lows highs step items)
+  loop_tokens lows highs step items fine boxes h depth =
       let inner : List Range = boxes ++ box_of boxes lows highs ∷ [] in
-      let g = sym (ap (λ f. f boxes) (fold_loop (item_fits_step arrays) lows highs items)) ∙ h in
-      let a = and_parts (head_fits (length boxes) lows highs && nat_lt 0 (length (map (item_fits arrays) items))) (is_small (box_of boxes lows highs) && items_fit arrays items inner) g in
-      let head = and_parts (head_fits (length boxes) lows highs) _ a.0 in
+      let g = sym (ap (λ f. f boxes) (fold_loop (item_fits_step arrays) lows highs step items)) ∙ h in
+      let a = and_parts (head_fits (length boxes) lows highs step && nat_lt 0 (length (map (item_fits arrays) items))) (is_small (box_of boxes lows highs) && items_fit arrays items inner) g in
+      let head = and_parts (head_fits (length boxes) lows highs step) _ a.0 in
       let below = and_parts (is_small (box_of boxes lows highs)) (items_fit arrays items inner) a.1 in
-      rw (ap (λ f. f depth) (fold_loop (item_step arrays letters) lows highs items))
-      (joined ((Key words.For ∷ head_symbols letters depth lows highs) ++ (Mark signs.LeftBrace ∷ items_symbols arrays letters items (suc depth))) (Mark signs.RightBrace ∷ [])
-      (joined (Key words.For ∷ head_symbols letters depth lows highs) (Mark signs.LeftBrace ∷ items_symbols arrays letters items (suc depth))
-      (head_tokens letters depth (length boxes) lows highs head.0) (each_tokens items fine inner below.1 (suc depth))) refl)
+      rw (ap (λ f. f depth) (fold_loop (item_step arrays letters) lows highs step items))
+      (joined ((Key words.For ∷ head_symbols letters depth lows highs step) ++ (Mark signs.LeftBrace ∷ items_symbols arrays letters items (suc depth))) (Mark signs.RightBrace ∷ [])
+      (joined (Key words.For ∷ head_symbols letters depth lows highs step) (Mark signs.LeftBrace ∷ items_symbols arrays letters items (suc depth))
+      (head_tokens letters depth (length boxes) lows highs step head.0) (each_tokens items fine inner below.1 (suc depth))) refl)
+
+  if_tokens : (row : Form) (items : List Item) → Each ItemFine items → ItemFine (If row items)
+  if_tokens row items fine boxes h depth =
+      let g = sym (ap (λ f. f boxes) (fold_if (item_fits_step arrays) row items)) ∙ h in
+      let a = and_parts (row_fits (length boxes) row && nat_lt 0 (length (map (item_fits arrays) items))) (items_fit arrays items boxes) g in
+      let b = and_parts (row_fits (length boxes) row) _ a.0 in
+      rw (ap (λ f. f depth) (fold_if (item_step arrays letters) row items))
+      (joined ((Name (codes "if") ∷ condition_symbols letters row) ++ (Mark signs.LeftBrace ∷ items_symbols arrays letters items depth)) (Mark signs.RightBrace ∷ [])
+      (joined (Name (codes "if") ∷ condition_symbols letters row) (Mark signs.LeftBrace ∷ items_symbols arrays letters items depth)
+      (named (codes "if") (condition_symbols letters row) if_named (condition_tokens letters (length boxes) row b.0)) (each_tokens items fine boxes a.1 depth)) refl)
 
   leaf_tokens : (label : ℕ) (body : Body) → ItemFine (Assign label body)
   leaf_tokens label body boxes h depth =
@@ -249,7 +293,7 @@ module _ (arrays : List ArrayDecl) (letters : ℕ) (have_names : list_all is_nam
       rw (ap (λ f. f depth) (fold_assign (item_step arrays letters) label body)) (assign_tokens (length boxes) body g)
 
   items_tokens : (items : List Item) (boxes : List Range) → items_fit arrays items boxes ≡ true → (depth : ℕ) → AreTokens (items_symbols arrays letters items depth)
-  items_tokens items = each_tokens items (each_item ItemFine loop_tokens leaf_tokens items)
+  items_tokens items = each_tokens items (each_item ItemFine loop_tokens if_tokens leaf_tokens items)
 
 -- lets
 
@@ -289,13 +333,19 @@ module _ (arrays : List ArrayDecl) where
       let parts = and_parts (item_fits arrays i boxes) (items_fit arrays is boxes) h in
       all_joined is_size (minus_in_item i) (minus_in_items is) (fine.0 boxes parts.0) (each_size is fine.1 boxes parts.1)
 
-  loop_sizes : (lows highs : List Form) (items : List Item) → Each ItemSizesFit items → ItemSizesFit (Loop lows highs items)
-  loop_sizes lows highs items fine boxes h =
+  loop_sizes : (lows highs : List Form) (step : ℕ) (items : List Item) → Each ItemSizesFit items → ItemSizesFit (Loop lows highs step items)
+  loop_sizes lows highs step items fine boxes h =
       let inner : List Range = boxes ++ box_of boxes lows highs ∷ [] in
-      let g = sym (ap (λ f. f boxes) (fold_loop (item_fits_step arrays) lows highs items)) ∙ h in
-      let a = and_parts (head_fits (length boxes) lows highs && nat_lt 0 (length (map (item_fits arrays) items))) (is_small (box_of boxes lows highs) && items_fit arrays items inner) g in
+      let g = sym (ap (λ f. f boxes) (fold_loop (item_fits_step arrays) lows highs step items)) ∙ h in
+      let a = and_parts (head_fits (length boxes) lows highs step && nat_lt 0 (length (map (item_fits arrays) items))) (is_small (box_of boxes lows highs) && items_fit arrays items inner) g in
       let below = and_parts (is_small (box_of boxes lows highs)) (items_fit arrays items inner) a.1 in
-      rw (fold_loop minus_item_step lows highs items) (each_size items fine inner below.1)
+      rw (fold_loop minus_item_step lows highs step items) (each_size items fine inner below.1)
+
+  if_sizes : (row : Form) (items : List Item) → Each ItemSizesFit items → ItemSizesFit (If row items)
+  if_sizes row items fine boxes h =
+      let g = sym (ap (λ f. f boxes) (fold_if (item_fits_step arrays) row items)) ∙ h in
+      let a = and_parts (row_fits (length boxes) row && nat_lt 0 (length (map (item_fits arrays) items))) (items_fit arrays items boxes) g in
+      rw (fold_if minus_item_step row items) (each_size items fine boxes a.1)
 
   leaf_sizes : (label : ℕ) (body : Body) → ItemSizesFit (Assign label body)
   leaf_sizes label body boxes h =
@@ -305,7 +355,7 @@ module _ (arrays : List ArrayDecl) where
       rw (fold_assign minus_item_step label body) (sizes_fit arrays (length boxes) body.right fits.0)
 
   items_sizes_fit : (items : List Item) (boxes : List Range) → items_fit arrays items boxes ≡ true → list_all is_size (minus_in_items items) ≡ true
-  items_sizes_fit items = each_size items (each_item ItemSizesFit loop_sizes leaf_sizes items)
+  items_sizes_fit items = each_size items (each_item ItemSizesFit loop_sizes if_sizes leaf_sizes items)
 
 let_if_tokens : (known : Bool) (letters size : ℕ) → is_size size ≡ true → AreTokens (let_if known letters size)
 let_if_tokens true letters size h = refl
@@ -359,7 +409,7 @@ array_tokens d f n e h =
     joined (Key words.Array ∷ Name d.name ∷ flat_map extent_symbols d.extents) (fill_symbols f)
     (named d.name (flat_map extent_symbols d.extents) n (all_mapped is_symbol extent_symbols is_size extent_tokens d.extents e)) (fill_tokens f h)
 
-arrays_tokens : (arrays : List ArrayDecl) (fills : List Fill) → list_all is_named arrays ≡ true → list_all is_array arrays ≡ true → total arrays ≤ 262144 → list_all is_fill fills ≡ true
+arrays_tokens : (arrays : List ArrayDecl) (fills : List Fill) → list_all is_named arrays ≡ true → list_all is_array arrays ≡ true → total (extents_of arrays) ≤ 262144 → list_all is_fill fills ≡ true
     → AreTokens (arrays_symbols arrays fills)
 arrays_tokens [] fills n a t h = refl
 arrays_tokens (d ∷ ds) [] n a t h = refl
@@ -375,16 +425,17 @@ arrays_tokens (d ∷ ds) (f ∷ fs) n a t h =
 
 pub program_tokens : (name : List ℕ) (nest : LoopNest) (fills : List Fill) → IsTrue (is_nest nest) → IsPrintable name nest.arrays fills → AreTokens (program_symbols name nest fills)
 program_tokens name nest fills formed p =
-    let parts = and_parts (arrays_fit nest.arrays) _ formed in
-    let shapes = and_parts (list_all is_array nest.arrays) (nat_le (total nest.arrays) most_cells) parts.0 in
-    let fits : items_fit nest.arrays nest.items [] ≡ true = (and_parts _ (items_fit nest.arrays nest.items []) parts.1).1 in
-    let letters = longest nest.arrays in
+    let halves = and_parts (arrays_fit nest.arrays && all_conditions_fit nest.items most_conditions) _ formed in
+    let formed_arrays = and_parts (arrays_fit nest.arrays) (all_conditions_fit nest.items most_conditions) halves.0 in
+    let shapes = and_parts (list_all is_array nest.arrays) (nat_le (total (extents_of nest.arrays)) most_cells) formed_arrays.0 in
+    let fits : items_fit nest.arrays nest.items [] ≡ true = (and_parts _ (items_fit nest.arrays nest.items []) halves.1).1 in
+    let letters = letters_for nest.arrays in
     let lets = lets_symbols letters [] (minus_in_items nest.items) in
     let arrays = arrays_symbols nest.arrays fills in
     let items = items_symbols nest.arrays letters nest.items 0 in
     let body : AreTokens (lets ++ arrays ++ items) =
     joined (lets ++ arrays) items
     (joined lets arrays (lets_tokens letters [] (minus_in_items nest.items) (items_sizes_fit nest.arrays nest.items [] fits))
-    (arrays_tokens nest.arrays fills p.named shapes.0 (leb-true (total nest.arrays) most_cells shapes.1) p.filled))
+    (arrays_tokens nest.arrays fills p.named shapes.0 (leb-true (total (extents_of nest.arrays)) most_cells shapes.1) p.filled))
     (items_tokens nest.arrays letters p.named nest.items [] fits 0) in
     joined (Key words.Program ∷ Name name ∷ Mark signs.LeftBrace ∷ (lets ++ arrays ++ items)) (Mark signs.RightBrace ∷ []) (named name (Mark signs.LeftBrace ∷ (lets ++ arrays ++ items)) p.called body) refl

@@ -10,7 +10,7 @@ use Rattle.ch_lex.specs.declared.error.Code2.TheVariants.{P1, D8}
 use Rattle.ch_lex.specs.declared.keyword.Keyword.TheVariants as words
 use Rattle.ch_lex.specs.declared.token.Sign.TheVariants as signs
 use Rattle.ch_lex.specs.declared.token.Token.{Token}
-use Rattle.ch_nest.specs.Arrays.{cells_in, total}
+use Rattle.ch_nest.specs.Arrays.{cells_in, extents_of, total}
 use Rattle.ch_nest.specs.Limits.{most_cells, most_dimensions}
 use Rattle.ch_nest.specs.Shape.{has_dimensions, is_array}
 use Rattle.ch_nest.specs.declared.nest.ArrayDecl.{ArrayDecl}
@@ -24,12 +24,13 @@ use Rattle.ch_nestparse.specs.Declarations.{array_at, arrays_at, begins_array, e
 use Rattle.ch_nestparse.specs.Read.{◌>>=◌, Names, find_name, fresh_at, guarded, integer_at, is_keyword, is_sign, keyword_at, place, repeated, seen, sign_at, text_at}
 use Rattle.ch_nestprint.specs.declared.symbol.Symbol.{Symbol}
 use Rattle.ch_nestprint.specs.declared.symbol.Symbol.TheVariants.{Name, Number, Key, Mark}
-use Rattle.ch_nestprint.specs.Names.{array_name, iterator_name, longest, made_name, minus_name}
+use Rattle.ch_nestprint.specs.Names.{array_name, iterator_name, letters_for, minus_name}
 use Rattle.ch_nestprint.specs.Printed.{array_symbols, arrays_symbols, extent_symbols, fill_symbols, integer_if, integer_symbols}
 use Rattle.ch_nestprint.proofs.Amounts.{below_negsuc, below_pos}
 use Rattle.ch_nestprint.proofs.Cases.{Each}
 use Rattle.ch_nestprint.proofs.LetsRead.{IsEnd, LetNames, each_also, seen_long}
-use Rattle.ch_nestprint.proofs.NamesRead.{find_kept, find_new, find_none, iterator_is_no_minus, longer_differ, made_long, other_bytes, same_bytes, shorter_differ}
+use Rattle.ch_nestprint.proofs.NamesFree.{IsFree, all_free}
+use Rattle.ch_nestprint.proofs.NamesRead.{find_kept, find_new, find_none, iterator_is_no_minus, other_bytes, same_bytes}
 use Rattle.ch_nestprint.proofs.RightsRead.{LetKnown}
 use Rattle.ch_nestprint.proofs.Seeing.{Given, Passed, Sees, Valued, behind_front, fresh_given, front, given_bind, given_chosen, given_guarded, given_ok, given_other, keyword_given, minus_given, plain_given, seen_front, sign_given}
 
@@ -60,11 +61,11 @@ cells_first found e es h =
 pub record Placed (d : Declared) (done : List ArrayDecl) (fills : List Fill) (letters : ℕ) (sizes : List ℕ) : Type 0 where
   pub arrays : d.arrays ≡ done
   pub starts : d.fills ≡ fills
-  pub cells : d.cells ≡ total done
+  pub cells : d.cells ≡ total (extents_of done)
   pub placed : (k n : ℕ) → has_dimensions done k n ≡ true → find_name (array_name done k) d.names ≡ Some (Array k n)
   pub lets : Each (LetKnown d.names letters) sizes
   pub free : (k : ℕ) → find_name (iterator_name letters k) d.names ≡ None
-  pub fresh : (text : List ℕ) → length text ≤ letters → Each (λ x. bytes_eq text x.name ≡ false) done → find_name text d.names ≡ None
+  pub fresh : (text : List ℕ) → IsFree letters text → Each (λ x. bytes_eq text x.name ≡ false) done → find_name text d.names ≡ None
 
 -- a name that differs from those before, in the order of the list
 abbrev Differs : List ℕ → List ArrayDecl → Type 0
@@ -100,17 +101,6 @@ differs_parts : (text : List ℕ) (done : List ArrayDecl) (a : ArrayDecl) → Di
 differs_parts text [] a h = (tt, h.0)
 differs_parts text (x ∷ xs) a h = let g = differs_parts text xs a h.1 in ((h.0, g.0), g.1)
 
--- a name that was made differs from those of arrays
-long_differs : (beginning : List ℕ) (letters number : ℕ) (name : List ℕ) → 0 < length beginning → length name ≤ letters → bytes_eq (made_name beginning letters number) name ≡ false
-long_differs beginning letters number name some short =
-    let long = made_long beginning letters number some in
-    longer_differ name (made_name beginning letters number) (omega (arith, long))
-
-short_differs : (beginning : List ℕ) (letters number : ℕ) (name : List ℕ) → 0 < length beginning → length name ≤ letters → bytes_eq name (made_name beginning letters number) ≡ false
-short_differs beginning letters number name some short =
-    let long = made_long beginning letters number some in
-    shorter_differ name (made_name beginning letters number) (omega (arith, long))
-
 -- what is placed at the end of a list
 
 no_more : (k n : ℕ) → has_dimensions [] k n ≡ true → ⊥
@@ -125,18 +115,11 @@ placed_last (x ∷ xs) a zero n P h before last = before h
 placed_last (x ∷ xs) a (suc k) n P h before last =
     placed_last xs a k n (λ t j. P t (suc j)) h before last
 
-longest_each : (arrays : List ArrayDecl) (letters : ℕ) → longest arrays ≤ letters → Each (λ d. length d.name ≤ letters) arrays
-longest_each [] letters h = tt
-longest_each (d ∷ ds) letters h =
-    let a : length d.name ≤ letters = grind (arith) in
-    let b : longest ds ≤ letters = grind (arith) in
-    (a, longest_each ds letters b)
-
-total_joined : (xs : List ArrayDecl) (a : ArrayDecl) → total (xs ++ a ∷ []) ≡ total xs + cells_in a.extents
+total_joined : (xs : List ArrayDecl) (a : ArrayDecl) → total (extents_of (xs ++ a ∷ [])) ≡ total (extents_of xs) + cells_in a.extents
 total_joined [] a = omega arith
 total_joined (x ∷ xs) a = let e = total_joined xs a in omega (arith, e)
 
-total_more : (xs ys : List ArrayDecl) → total (xs ++ ys) ≡ total xs + total ys
+total_more : (xs ys : List ArrayDecl) → total (extents_of (xs ++ ys)) ≡ total (extents_of xs) + total (extents_of ys)
 total_more [] ys = omega arith
 total_more (x ∷ xs) ys = let e = total_more xs ys in omega (arith, e)
 
@@ -148,12 +131,12 @@ one_more d a f = record {
   cells = d.cells + cells_in a.extents;
 }
 
-placed_more : (d : Declared) (done : List ArrayDecl) (fills : List Fill) (letters : ℕ) (sizes : List ℕ) (a : ArrayDecl) (f : Fill) → Placed d done fills letters sizes → length a.name ≤ letters → Differs a.name done
+placed_more : (d : Declared) (done : List ArrayDecl) (fills : List Fill) (letters : ℕ) (sizes : List ℕ) (a : ArrayDecl) (f : Fill) → Placed d done fills letters sizes → IsFree letters a.name → Differs a.name done
     → Placed (one_more d a f) (done ++ a ∷ []) (fills ++ f ∷ []) letters sizes
-placed_more d done fills letters sizes a f p short differs =
+placed_more d done fills letters sizes a f p apart differs =
     let named : Named = Array (length d.arrays) (length a.extents) in
     let more : Names = d.names ++ (a.name, named) ∷ [] in
-    let new : find_name a.name d.names ≡ None = p.fresh a.name short differs in
+    let new : find_name a.name d.names ≡ None = p.fresh a.name apart differs in
     let at : length d.arrays ≡ length done = ap length p.arrays in
     record {
       arrays = ap (λ (xs : List ArrayDecl). xs ++ a ∷ []) p.arrays;
@@ -163,10 +146,10 @@ placed_more d done fills letters sizes a f p short differs =
           (λ g. find_kept (array_name done k) d.names ((a.name, named) ∷ []) (Array k n) (p.placed k n g))
           (λ e. find_new a.name d.names named new ∙ ap (λ (j : ℕ). Some (Array j (length a.extents))) at ∙ ap (λ (m : ℕ). Some (Array (length done) m)) e);
       lets = each_also (LetKnown d.names letters) (LetKnown more letters) sizes (λ n k. find_kept (minus_name letters n) d.names ((a.name, named) ∷ []) (Let (neg_ℤ (pos n))) k) p.lets;
-      free = λ k. find_none (iterator_name letters k) a.name d.names named (p.free k) (long_differs (codes "i") letters k a.name (omega arith) short);
-      fresh = λ text l h.
+      free = λ k. find_none (iterator_name letters k) a.name d.names named (p.free k) (apart.0 k);
+      fresh = λ text free h.
           let parts = differs_parts text done a h in
-          find_none text a.name d.names named (p.fresh text l parts.0) parts.1;
+          find_none text a.name d.names named (p.fresh text free parts.0) parts.1;
     }
 
 abbrev Bare : List Symbol → Type 0
@@ -293,19 +276,19 @@ module _ (bytes : List ℕ) where
       (ap (is_keyword words.Array) (seen_front bytes ts rest sees) ∙ ends) (given_ok (ArraysAfter done fills letters sizes rest) (d, ts) (p, sees))
 
   each_array : (letters : ℕ) (sizes : List ℕ) (arrays : List ArrayDecl) (fills : List Fill) (done : List ArrayDecl) (starts : List Fill) (k : ℕ) (d : Declared) (ts : List Token) (rest : List Symbol)
-      → length fills ≡ length arrays → Placed d done starts letters sizes → Each (λ x. length x.name ≤ letters) arrays → are_distinct (done ++ arrays) ≡ true → list_all is_array arrays ≡ true
-      → total (done ++ arrays) ≤ 262144 → IsEnd words.Array rest → length (arrays_symbols arrays fills) ≤ k → Sees bytes ts (arrays_symbols arrays fills ++ rest)
+      → length fills ≡ length arrays → Placed d done starts letters sizes → Each (λ x. IsFree letters x.name) arrays → are_distinct (done ++ arrays) ≡ true → list_all is_array arrays ≡ true
+      → total (extents_of (done ++ arrays)) ≤ 262144 → IsEnd words.Array rest → length (arrays_symbols arrays fills) ≤ k → Sees bytes ts (arrays_symbols arrays fills ++ rest)
       → Given (ArraysAfter (done ++ arrays) (starts ++ fills) letters sizes rest) (repeated (begins_array bytes) (array_at bytes) k d ts)
   unfolding repeated
-  each_array letters sizes [] [] done starts k d ts rest same p short differ shapes few ends l sees =
+  each_array letters sizes [] [] done starts k d ts rest same p apart differ shapes few ends l sees =
       let a : done ≡ done ++ [] = sym (append-nil done) in
       let b : starts ≡ starts ++ [] = sym (append-nil starts) in
       let made = arrays_end letters sizes done starts k d ts rest p ends sees in
       rw (a, b) at made
-  each_array letters sizes [] (f ∷ fs) done starts k d ts rest same p short differ shapes few ends l sees = absurd (omega arith)
-  each_array letters sizes (a ∷ more_arrays) [] done starts k d ts rest same p short differ shapes few ends l sees = absurd (omega arith)
-  each_array letters sizes (a ∷ more_arrays) (f ∷ fs) done starts zero d ts rest same p short differ shapes few ends l sees = absurd (omega arith)
-  each_array letters sizes (a ∷ more_arrays) (f ∷ fs) done starts (suc k) d ts rest same p short differ shapes few ends l sees =
+  each_array letters sizes [] (f ∷ fs) done starts k d ts rest same p apart differ shapes few ends l sees = absurd (omega arith)
+  each_array letters sizes (a ∷ more_arrays) [] done starts k d ts rest same p apart differ shapes few ends l sees = absurd (omega arith)
+  each_array letters sizes (a ∷ more_arrays) (f ∷ fs) done starts zero d ts rest same p apart differ shapes few ends l sees = absurd (omega arith)
+  each_array letters sizes (a ∷ more_arrays) (f ∷ fs) done starts (suc k) d ts rest same p apart differ shapes few ends l sees =
       let parts = and_parts (is_array a) (list_all is_array more_arrays) shapes in
       let tail = arrays_symbols more_arrays fs in
       let more : List Symbol = tail ++ rest in
@@ -317,16 +300,16 @@ module _ (bytes : List ℕ) where
       let sum = total_more done (a ∷ more_arrays) in
       let cells = p.cells in
       let next : Declared = one_more d a f in
-      let fresh : find_name a.name d.names ≡ None = p.fresh a.name short.0 differs in
+      let fresh : find_name a.name d.names ≡ None = p.fresh a.name apart.0 differs in
       let few_here : d.cells + cells_in a.extents ≤ 262144 = omega (arith, sum, cells) in
       given_chosen goal (begins_array bytes ts) (λ _. array_at bytes d ts >>= λ x. repeated (begins_array bytes) (array_at bytes) k x.0 x.1) (λ _. Ok (d, ts))
       (ap (is_keyword words.Array) (seen_front bytes ts (array_symbols a f ++ more) flat))
       (given_bind (Valued bytes next more) goal (array_at bytes d ts) (λ x. repeated (begins_array bytes) (array_at bytes) k x.0 x.1) (array_given d a f ts more fresh parts.0 few_here flat) (λ x b.
-      let now : Placed x.0 (done ++ a ∷ []) (starts ++ f ∷ []) letters sizes = subst (λ (y : Declared). Placed y (done ++ a ∷ []) (starts ++ f ∷ []) letters sizes) (sym b.0) (placed_more d done starts letters sizes a f p short.0 differs) in
+      let now : Placed x.0 (done ++ a ∷ []) (starts ++ f ∷ []) letters sizes = subst (λ (y : Declared). Placed y (done ++ a ∷ []) (starts ++ f ∷ []) letters sizes) (sym b.0) (placed_more d done starts letters sizes a f p apart.0 differs) in
       let distinct : are_distinct ((done ++ a ∷ []) ++ more_arrays) ≡ true = rw joined differ in
-      let fits : total ((done ++ a ∷ []) ++ more_arrays) ≤ 262144 = rw joined few in
+      let fits : total (extents_of ((done ++ a ∷ []) ++ more_arrays)) ≤ 262144 = rw joined few in
       let rest_long : length tail ≤ k = omega (arith, length-append (array_symbols a f) tail) in
-      let made = each_array letters sizes more_arrays fs (done ++ a ∷ []) (starts ++ f ∷ []) k x.0 x.1 rest (omega arith) now short.1 distinct parts.1 fits ends rest_long b.1 in
+      let made = each_array letters sizes more_arrays fs (done ++ a ∷ []) (starts ++ f ∷ []) k x.0 x.1 rest (omega arith) now apart.1 distinct parts.1 fits ends rest_long b.1 in
       rw (joined, joined_fills) at made))
 
   none_placed : (names : Names) (letters : ℕ) (sizes : List ℕ) → LetNames names letters sizes → Placed (no_arrays names) [] [] letters sizes
@@ -337,14 +320,14 @@ module _ (bytes : List ℕ) where
     placed = λ k n h. absurd (no_more k n h);
     lets = lets.known;
     free = λ k. lets.free (iterator_name letters k) (λ size. iterator_is_no_minus letters k size);
-    fresh = λ text l h. lets.free text (λ size. short_differs (codes "minus") letters size text (omega arith) l);
+    fresh = λ text free h. lets.free text free.1;
   }
 
-  pub arrays_given : (arrays : List ArrayDecl) (fills : List Fill) (names : Names) (sizes : List ℕ) (ts : List Token) (rest : List Symbol) → length fills ≡ length arrays → LetNames names (longest arrays) sizes
-      → are_distinct arrays ≡ true → list_all is_array arrays ≡ true → total arrays ≤ 262144 → IsEnd words.Array rest → Sees bytes ts (arrays_symbols arrays fills ++ rest)
-      → Given (ArraysAfter arrays fills (longest arrays) sizes rest) (arrays_at bytes names ts)
+  pub arrays_given : (arrays : List ArrayDecl) (fills : List Fill) (names : Names) (sizes : List ℕ) (ts : List Token) (rest : List Symbol) → length fills ≡ length arrays → LetNames names (letters_for arrays) sizes
+      → are_distinct arrays ≡ true → list_all is_array arrays ≡ true → total (extents_of arrays) ≤ 262144 → IsEnd words.Array rest → Sees bytes ts (arrays_symbols arrays fills ++ rest)
+      → Given (ArraysAfter arrays fills (letters_for arrays) sizes rest) (arrays_at bytes names ts)
   arrays_given arrays fills names sizes ts rest same lets differ shapes few ends sees =
-      let letters = longest arrays in
+      let letters = letters_for arrays in
       let n = seen_long bytes letters ts (arrays_symbols arrays fills ++ rest) sees in
-      each_array letters sizes arrays fills [] [] (length ts) (no_arrays names) ts rest same (none_placed names letters sizes lets) (longest_each arrays letters (omega arith)) differ shapes few ends
+      each_array letters sizes arrays fills [] [] (length ts) (no_arrays names) ts rest same (none_placed names letters sizes lets) (all_free arrays) differ shapes few ends
       (omega (arith, n, length-append (arrays_symbols arrays fills) rest)) sees

@@ -10,7 +10,7 @@ use Rattle.ch_nest.specs.declared.nest.Expr.TheVariants.{Number, Iter, Read, Neg
 use Rattle.ch_nest.specs.declared.nest.Item.{Item, map-Item, roll-Item}
 use Rattle.ch_nest.specs.declared.nest.Item.TheFolds.{fold-Item, fold-roll-Item, ind-Item}
 use Rattle.ch_nest.specs.declared.nest.Item.TheOpen.{Item-F}
-use Rattle.ch_nest.specs.declared.nest.Item.TheVariants.{Loop, Assign, rolls-Loop, rolls-Assign}
+use Rattle.ch_nest.specs.declared.nest.Item.TheVariants.{Loop, If, Assign, rolls-Loop, rolls-If, rolls-Assign}
 
 module _ (P : Expr → Type 0) (numbers : (n : ℤ) → P (Number n)) (iterators : (k : ℕ) → P (Iter k)) (reads : (a : Access) → P (Read a)) (negs : (x : Expr) → P x → P (Neg x))
     (adds : (x y : Expr) → P x → P y → P (Add x y)) (subs : (x y : Expr) → P x → P y → P (Sub x y)) (muls : (x y : Expr) → P x → P y → P (Mul x y)) where
@@ -37,7 +37,8 @@ abbrev pub Each : {A : Type 0} → (A → Type 0) → List A → Type 0
 Each P [] = Unit {0}
 Each P (x ∷ xs) = P x × Each P xs
 
-module _ (P : Item → Type 0) (loops : (lows highs : List Form) (items : List Item) → Each P items → P (Loop lows highs items)) (leaf : (label : ℕ) (body : Body) → P (Assign label body)) where
+module _ (P : Item → Type 0) (loops : (lows highs : List Form) (step : ℕ) (items : List Item) → Each P items → P (Loop lows highs step items))
+    (ifs : (row : Form) (items : List Item) → Each P items → P (If row items)) (leaf : (label : ℕ) (body : Body) → P (Assign label body)) where
   abbrev KnownItem : Type 0
   KnownItem = (item : Item) × P item
 
@@ -49,7 +50,8 @@ module _ (P : Item → Type 0) (loops : (lows highs : List Form) (items : List I
   each_known (e ∷ ks) = (e.1, each_known ks)
 
   item_layer : (y : Item-F KnownItem) → P (roll-Item (map-Item KnownItem Item bare_item y))
-  item_layer (Item-F.Loop lows highs ks) = subst P (sym (rolls-Loop lows highs (map bare_item ks))) (loops lows highs (map bare_item ks) (each_known ks))
+  item_layer (Item-F.Loop lows highs step ks) = subst P (sym (rolls-Loop lows highs step (map bare_item ks))) (loops lows highs step (map bare_item ks) (each_known ks))
+  item_layer (Item-F.If row ks) = subst P (sym (rolls-If row (map bare_item ks))) (ifs row (map bare_item ks) (each_known ks))
   item_layer (Item-F.Assign label body) = subst P (sym (rolls-Assign label body)) (leaf label body)
 
   pub by_items : (item : Item) → P item
@@ -60,8 +62,11 @@ module _ (P : Item → Type 0) (loops : (lows highs : List Form) (items : List I
   each_item (i ∷ is) = (by_items i, each_item is)
 
 module _ {C : Type 0} (step : Item-F C → C) where
-  pub fold_loop : (lows highs : List Form) (items : List Item) → fold-Item C step (Loop lows highs items) ≡ step (Item-F.Loop lows highs (map (fold-Item C step) items))
-  fold_loop lows highs items = ap (fold-Item C step) (sym (rolls-Loop lows highs items)) ∙ fold-roll-Item C step _
+  pub fold_loop : (lows highs : List Form) (by : ℕ) (items : List Item) → fold-Item C step (Loop lows highs by items) ≡ step (Item-F.Loop lows highs by (map (fold-Item C step) items))
+  fold_loop lows highs by items = ap (fold-Item C step) (sym (rolls-Loop lows highs by items)) ∙ fold-roll-Item C step _
+
+  pub fold_if : (row : Form) (items : List Item) → fold-Item C step (If row items) ≡ step (Item-F.If row (map (fold-Item C step) items))
+  fold_if row items = ap (fold-Item C step) (sym (rolls-If row items)) ∙ fold-roll-Item C step _
 
   pub fold_assign : (label : ℕ) (body : Body) → fold-Item C step (Assign label body) ≡ step (Item-F.Assign label body)
   fold_assign label body = ap (fold-Item C step) (sym (rolls-Assign label body)) ∙ fold-roll-Item C step _

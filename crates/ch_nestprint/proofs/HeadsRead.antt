@@ -8,13 +8,13 @@ use Rattle.std.proofs.lemmas.Int.{ints}
 use Rattle.std.proofs.lemmas.List.{append-nil}
 use Rattle.ch_affine.specs.Form.{Form}
 use Rattle.ch_affine.specs.declared.system.Range.{Range}
-use Rattle.ch_lex.specs.declared.error.Code2.TheVariants.{P1}
+use Rattle.ch_lex.specs.declared.error.Code2.TheVariants.{P1, P7}
 use Rattle.ch_lex.specs.declared.keyword.Keyword.{Keyword}
 use Rattle.ch_lex.specs.declared.keyword.Keyword.TheVariants as words
 use Rattle.ch_lex.specs.declared.token.Sign.TheVariants as signs
 use Rattle.ch_lex.specs.declared.token.Token.{Token}
 use Rattle.ch_nest.specs.Limits.{most_affine, most_forms, most_nesting}
-use Rattle.ch_nest.specs.Shape.{are_few, box_of, coefs_fit, head_fits, high_end, highs_fit, is_at_most, is_small, low_end, lows_fit}
+use Rattle.ch_nest.specs.Shape.{are_few, box_of, coefs_fit, head_fits, high_end, highs_fit, is_at_most, is_small, low_end, lows_fit, step_fits}
 use Rattle.ch_nestparse.specs.declared.ahead.Ending.{Ending}
 use Rattle.ch_nestparse.specs.declared.ahead.Ending.TheVariants as endings
 use Rattle.ch_nestparse.specs.declared.ahead.Look.{Look}
@@ -23,16 +23,16 @@ use Rattle.ch_nestparse.specs.declared.heads.Ends.{Ends}
 use Rattle.ch_nestparse.specs.declared.scope.Named.TheVariants.{Iterator}
 use Rattle.ch_nestparse.specs.Expressions.{term_sign}
 use Rattle.ch_nestparse.specs.Forms.{form_at}
-use Rattle.ch_nestparse.specs.Heads.{Head, bounded, bounded_if, ends_at, head_at, high_at, last_of, low_at, more_at, next_is_comma, same_name_at, several_at, single_at, step_at, strict_if}
-use Rattle.ch_nestparse.specs.Read.{◌>>=◌, Names, begins, find_name, fresh_at, guarded, is_keyword, is_sign, name_at, place, repeated, seen, sign_at}
+use Rattle.ch_nestparse.specs.Heads.{Head, bounded, bounded_if, ends_at, head_at, high_at, last_of, low_at, more_at, next_is_comma, next_at, number_step_at, same_name_at, several_at, single_at, step_at, strict_if}
+use Rattle.ch_nestparse.specs.Read.{◌>>=◌, Names, begins, find_name, fresh_at, guarded, is_keyword, is_sign, name_at, next_is, number_at, place, repeated, seen, sign_at}
 use Rattle.ch_nestprint.specs.declared.symbol.Symbol.{Symbol}
 use Rattle.ch_nestprint.specs.declared.symbol.Symbol.TheVariants.{Name, Number, Key, Mark}
-use Rattle.ch_nestprint.specs.Ends.{beginning_symbols, coef_if, comma_end, end_symbols, ends_symbols, head_symbols, highs_symbols, is_below, is_none, is_strict, lead, limit_symbols, lows_symbols, raised_if, relation, step_symbols, terms_symbols, times_if}
+use Rattle.ch_nestprint.specs.Ends.{beginning_symbols, coef_if, comma_end, end_symbols, ends_symbols, head_symbols, highs_symbols, is_below, is_none, is_strict, lead, limit_symbols, lows_symbols, next_if, next_symbols, raised_if, relation, step_symbols, terms_symbols, times_if}
 use Rattle.ch_nestprint.specs.Names.{iterator_name}
 use Rattle.ch_nestprint.proofs.AllSymbols.{EndFits, highs_end, lows_end}
 use Rattle.ch_nestprint.proofs.FormsRead.{Calm, form_given}
 use Rattle.ch_nestprint.proofs.NamesRead.{same_bytes}
-use Rattle.ch_nestprint.proofs.Seeing.{Given, Passed, Sees, Valued, behind_front, fresh_given, front, given_bind, given_chosen, given_guarded, given_ok, given_other, keyword_same, name_given, seen_front, sign_given}
+use Rattle.ch_nestprint.proofs.Seeing.{Given, Passed, Sees, Valued, behind_front, fresh_given, front, given_bind, given_chosen, given_guarded, given_ok, given_other, keyword_same, name_given, number_given, seen_front, sign_given}
 
 -- a form begins with no keyword
 
@@ -66,14 +66,15 @@ raised_form raises f = record { coefs = f.coefs; constant = raised_if raises f.c
 abbrev ends_of : List Form → ℤ → Ends
 ends_of forms end = record { forms = forms; end = end }
 
-abbrev head_of : List ℕ → Ends → Ends → Head
-head_of name low high = record { name = name; lows = low.forms; highs = high.forms; box = record { low = low.end; high = high.end } }
+abbrev head_of : List ℕ → Ends → Ends → ℕ → Head
+head_of name low high step = record { name = name; lows = low.forms; highs = high.forms; step = step; box = record { low = low.end; high = high.end } }
 
 both_ends : (a b : List Form) (x y : ℤ) → a ≡ b → x ≡ y → ends_of a x ≡ ends_of b y
 both_ends a b x y e f = ap (λ (fs : List Form). ends_of fs x) e ∙ ap (λ (z : ℤ). ends_of b z) f
 
-whole_head : (m n : List ℕ) (a b c d : Ends) → m ≡ n → a ≡ b → c ≡ d → head_of m a c ≡ head_of n b d
-whole_head m n a b c d e f g = ap (λ (x : List ℕ). head_of x a c) e ∙ ap (λ (x : Ends). head_of n x c) f ∙ ap (λ (x : Ends). head_of n b x) g
+whole_head : (m n : List ℕ) (a b c d : Ends) (x y : ℕ) → m ≡ n → a ≡ b → c ≡ d → x ≡ y → head_of m a c x ≡ head_of n b d y
+whole_head m n a b c d x y e f g h =
+    ap (λ (z : List ℕ). head_of z a c x) e ∙ ap (λ (z : Ends). head_of n z c x) f ∙ ap (λ (z : Ends). head_of n b z x) g ∙ ap (head_of n b d) h
 
 module _ (bytes : List ℕ) (names : Names) (letters levels : ℕ) (iterators : (k : ℕ) → k < levels → find_name (iterator_name letters k) names ≡ Some (Iterator k)) (few : levels ≤ 6) where
   end_given : (ending : Ending) (raises : Bool) (f : Form) (ts : List Token) (rest : List Symbol) → EndFits levels raises f ≡ true → Calm ending rest → term_sign (front rest) ≡ None → Sees bytes ts (end_symbols letters raises f ++ rest)
@@ -236,32 +237,65 @@ module _ (bytes : List ℕ) (names : Names) (letters levels : ℕ) (iterators : 
       given_bind (Valued bytes name rest) (Passed bytes rest) (name_at bytes P1 ts) (λ other. guarded (bytes_eq name other.0) P1 (place bytes ts) (λ _. Ok other.1)) (name_given bytes P1 name ts rest sees) (λ other a.
       given_guarded (Passed bytes rest) (bytes_eq name other.0) P1 (place bytes ts) (λ _. Ok other.1) (ap (bytes_eq name) a.0 ∙ same_bytes name) (given_ok (Passed bytes rest) other.1 a.1))
 
-  step_given : (name : List ℕ) (ts : List Token) (rest : List Symbol) → Sees bytes ts (Name name ∷ Mark signs.Increment ∷ Mark signs.RightParen ∷ rest) → Given (Passed bytes rest) (step_at bytes name ts)
-  unfolding step_at
-  step_given name ts rest sees =
-      given_bind (Passed bytes (Mark signs.Increment ∷ Mark signs.RightParen ∷ rest)) (Passed bytes rest) (same_name_at bytes name ts) _ (same_given name ts (Mark signs.Increment ∷ Mark signs.RightParen ∷ rest) sees) (λ us a.
-      given_bind (Passed bytes (Mark signs.RightParen ∷ rest)) (Passed bytes rest) (sign_at bytes P1 signs.Increment us) _ (sign_given bytes P1 signs.Increment us (Mark signs.RightParen ∷ rest) a) (λ vs b.
-      sign_given bytes P1 signs.RightParen vs rest b))
+  number_step_given : (name : List ℕ) (lows : List Form) (step : ℕ) (ts : List Token) (rest : List Symbol) → step_fits step lows ≡ true
+      → Sees bytes ts (Mark signs.Equals ∷ Name name ∷ Mark signs.Plus ∷ Number step ∷ rest) → Given (Valued bytes step rest) (number_step_at bytes name lows ts)
+  unfolding number_step_at
+  number_step_given name lows step ts rest fits sees =
+      let goal = Valued bytes step rest in
+      let third : List Symbol = Number step ∷ rest in
+      let second : List Symbol = Mark signs.Plus ∷ third in
+      let first : List Symbol = Name name ∷ second in
+      given_bind (Passed bytes first) goal (sign_at bytes P1 signs.Equals ts) _ (sign_given bytes P1 signs.Equals ts first sees) (λ us a.
+      given_bind (Passed bytes second) goal (same_name_at bytes name us) _ (same_given name us second a) (λ vs b.
+      given_bind (Passed bytes third) goal (sign_at bytes P1 signs.Plus vs) _ (sign_given bytes P1 signs.Plus vs third b) (λ ws c.
+      given_bind (Valued bytes step rest) goal (number_at bytes P1 ws) _ (number_given bytes P1 step ws rest c) (λ n d.
+      given_guarded goal (step_fits n.0 lows) P7 (place bytes ws) (λ _. Ok n) (ap (λ (k : ℕ). step_fits k lows) d.0 ∙ fits) (given_ok goal n d)))))
 
-  pub head_given : (boxes : List Range) (at : ℕ) (lows highs : List Form) (ts : List Token) (rest : List Symbol) → levels ≡ length boxes → find_name (iterator_name letters levels) names ≡ None
-      → head_fits levels lows highs ≡ true → is_small (box_of boxes lows highs) ≡ true → Sees bytes ts (head_symbols letters levels lows highs ++ rest)
-      → Given (Valued bytes (record { name = iterator_name letters levels; lows = lows; highs = highs; box = box_of boxes lows highs }) rest) (head_at bytes names boxes at ts)
+  next_given : (alone : Bool) (name : List ℕ) (lows : List Form) (step : ℕ) (ts : List Token) (rest : List Symbol) → nat_eq step 1 ≡ alone → step_fits step lows ≡ true
+      → Sees bytes ts (next_if alone name step ++ rest) → Given (Valued bytes step rest) (next_at bytes name lows ts)
+  unfolding next_at
+  next_given true name lows step ts rest one fits sees =
+      given_chosen (Valued bytes step rest) (next_is bytes signs.Increment ts) (λ _. Ok (1, drop 1 ts)) (λ _. number_step_at bytes name lows ts)
+      (ap (is_sign signs.Increment) (seen_front bytes ts (Mark signs.Increment ∷ rest) sees))
+      (given_ok (Valued bytes step rest) (1, drop 1 ts) (sym (eqb-true step 1 one), behind_front bytes ts (Mark signs.Increment) rest sees))
+  next_given false name lows step ts rest one fits sees =
+      given_other (Valued bytes step rest) (next_is bytes signs.Increment ts) (λ _. Ok (1, drop 1 ts)) (λ _. number_step_at bytes name lows ts)
+      (ap (is_sign signs.Increment) (seen_front bytes ts (Mark signs.Equals ∷ Name name ∷ Mark signs.Plus ∷ Number step ∷ rest) sees))
+      (number_step_given name lows step ts rest fits sees)
+
+  step_given : (name : List ℕ) (lows : List Form) (step : ℕ) (ts : List Token) (rest : List Symbol) → step_fits step lows ≡ true
+      → Sees bytes ts (next_symbols name step ++ (Mark signs.RightParen ∷ rest)) → Given (Valued bytes step rest) (step_at bytes name lows ts)
+  unfolding step_at
+  step_given name lows step ts rest fits sees =
+      let goal = Valued bytes step rest in
+      let closes : List Symbol = Mark signs.RightParen ∷ rest in
+      let more : List Symbol = next_if (nat_eq step 1) name step ++ closes in
+      given_bind (Passed bytes more) goal (same_name_at bytes name ts) _ (same_given name ts more sees) (λ us a.
+      given_bind (Valued bytes step closes) goal (next_at bytes name lows us) _ (next_given (nat_eq step 1) name lows step us closes refl fits a) (λ x b.
+      given_bind (Passed bytes rest) goal (sign_at bytes P1 signs.RightParen x.1) _ (sign_given bytes P1 signs.RightParen x.1 rest b.1) (λ vs c.
+      given_ok goal (x.0, vs) (b.0, c))))
+
+  pub head_given : (boxes : List Range) (at : ℕ) (lows highs : List Form) (step : ℕ) (ts : List Token) (rest : List Symbol) → levels ≡ length boxes → find_name (iterator_name letters levels) names ≡ None
+      → head_fits levels lows highs step ≡ true → is_small (box_of boxes lows highs) ≡ true → Sees bytes ts (head_symbols letters levels lows highs step ++ rest)
+      → Given (Valued bytes (record { name = iterator_name letters levels; lows = lows; highs = highs; step = step; box = box_of boxes lows highs }) rest) (head_at bytes names boxes at ts)
   unfolding head_at
-  head_given boxes at lows highs ts rest e fresh fits small sees =
+  head_given boxes at lows highs step ts rest e fresh fits small sees =
       let name = iterator_name letters levels in
-      let heads = and_parts (lows_fit levels lows) (highs_fit levels highs) ((and_parts _ (lows_fit levels lows && highs_fit levels highs) fits).1) in
+      let both = and_parts (lows_fit levels lows && highs_fit levels highs) (step_fits step lows) ((and_parts _ ((lows_fit levels lows && highs_fit levels highs) && step_fits step lows) fits).1) in
+      let heads = and_parts (lows_fit levels lows) (highs_fit levels highs) both.0 in
       let low = low_end boxes lows in
       let box = and_parts (is_at_most most_affine low) (is_at_most most_affine (high_end boxes low highs)) small in
-      let h : Head = record { name = name; lows = lows; highs = highs; box = box_of boxes lows highs } in
+      let h : Head = record { name = name; lows = lows; highs = highs; step = step; box = box_of boxes lows highs } in
       let goal = Valued bytes h rest in
-      let seventh : List Symbol = Name name ∷ Mark signs.Increment ∷ Mark signs.RightParen ∷ rest in
+      let seventh : List Symbol = next_symbols name step ++ (Mark signs.RightParen ∷ rest) in
       let sixth : List Symbol = Mark signs.Semicolon ∷ seventh in
       let fifth : List Symbol = highs_symbols letters highs ++ sixth in
       let fourth : List Symbol = Name name ∷ fifth in
       let third : List Symbol = Mark signs.Semicolon ∷ fourth in
       let second : List Symbol = lows_symbols letters lows ++ third in
       let flat : Sees bytes ts (Mark signs.LeftParen ∷ Name name ∷ Mark signs.Equals ∷ second) =
-      sees ∙ append_assoc (beginning_symbols letters levels lows ++ limit_symbols letters levels highs) (step_symbols letters levels) rest
+      sees ∙ append_assoc (beginning_symbols letters levels lows ++ limit_symbols letters levels highs) (step_symbols letters levels step) rest
+      ∙ ap (λ (xs : List Symbol). (beginning_symbols letters levels lows ++ limit_symbols letters levels highs) ++ (Mark signs.Semicolon ∷ xs)) (append_assoc (next_symbols name step) (Mark signs.RightParen ∷ []) rest)
       ∙ append_assoc (beginning_symbols letters levels lows) (limit_symbols letters levels highs) sixth in
       let calm_sign : (xs : List Symbol) → Calm endings.Semicolon (Mark signs.Semicolon ∷ xs) = λ xs. record { stars = refl; brackets = refl; follows = refl } in
       given_bind (Passed bytes (Name name ∷ Mark signs.Equals ∷ second)) goal (sign_at bytes P1 signs.LeftParen ts) _ (sign_given bytes P1 signs.LeftParen ts (Name name ∷ Mark signs.Equals ∷ second) flat) (λ paren a.
@@ -274,6 +308,7 @@ module _ (bytes : List ℕ) (names : Names) (letters levels : ℕ) (iterators : 
       given_bind (Valued bytes (record { forms = highs; end = high_end boxes low highs }) sixth) goal (high_at bytes names boxes at l.0.end relation) _
       (rw end_is (high_given boxes at low highs relation sixth e heads.1 box.1 (calm_sign seventh) refl g)) (λ k i.
       given_bind (Passed bytes seventh) goal (sign_at bytes P1 signs.Semicolon k.1) _ (sign_given bytes P1 signs.Semicolon k.1 seventh i.1) (λ last j.
-      given_bind (Passed bytes rest) goal (step_at bytes n.0 last) _ (rw b.0 (step_given name last rest j)) (λ us m.
-      given_ok goal (record { name = n.0; lows = l.0.forms; highs = k.0.forms; box = record { low = l.0.end; high = k.0.end } }, us)
-      (whole_head n.0 name l.0 (record { forms = lows; end = low }) k.0 (record { forms = highs; end = high_end boxes low highs }) b.0 d.0 i.0, m))))))))))
+      let lows_are : l.0.forms ≡ lows = ap (λ (x : Ends). x.forms) d.0 in
+      given_bind (Valued bytes step rest) goal (step_at bytes n.0 l.0.forms last) _ (rw (b.0, lows_are) (step_given name lows step last rest both.1 j)) (λ s m.
+      given_ok goal (record { name = n.0; lows = l.0.forms; highs = k.0.forms; step = s.0; box = record { low = l.0.end; high = k.0.end } }, s.1)
+      (whole_head n.0 name l.0 (record { forms = lows; end = low }) k.0 (record { forms = highs; end = high_end boxes low highs }) s.0 step b.0 d.0 i.0 m.0, m.1))))))))))

@@ -64,7 +64,7 @@ piece_read kind at b bs rest e =
 
 -- runs
 
-run_len : (p : ℕ → Bool) (bs rest : List ℕ) → list_all p bs ≡ true → begins p rest ≡ false → prefix_len p (bs ++ rest) ≡ length bs
+pub run_len : (p : ℕ → Bool) (bs rest : List ℕ) → list_all p bs ≡ true → begins p rest ≡ false → prefix_len p (bs ++ rest) ≡ length bs
 run_len p [] [] h e = refl
 run_len p [] (b ∷ rest) h e = let f : p b ≡ false = e in rw f refl
 run_len p (b ∷ bs) rest h e =

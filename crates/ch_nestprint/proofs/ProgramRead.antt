@@ -9,10 +9,10 @@ use Rattle.ch_lex.specs.declared.keyword.Keyword.{Keyword}
 use Rattle.ch_lex.specs.declared.keyword.Keyword.TheVariants as words
 use Rattle.ch_lex.specs.declared.token.Sign.TheVariants as signs
 use Rattle.ch_lex.specs.declared.token.Token.{Token}
-use Rattle.ch_nest.specs.Arrays.{total}
-use Rattle.ch_nest.specs.Limits.{deepest, most_cells}
+use Rattle.ch_nest.specs.Arrays.{extents_of, total}
+use Rattle.ch_nest.specs.Limits.{deepest, most_cells, most_conditions}
 use Rattle.ch_nest.specs.LoopNest.{LoopNest}
-use Rattle.ch_nest.specs.Shape.{all_numbered, arrays_fit, is_array, is_nest, items_fit}
+use Rattle.ch_nest.specs.Shape.{all_conditions_fit, all_numbered, arrays_fit, is_array, is_nest, items_fit}
 use Rattle.ch_nest.specs.declared.nest.ArrayDecl.{ArrayDecl}
 use Rattle.ch_nest.specs.declared.nest.Fill.{Fill}
 use Rattle.ch_nest.specs.declared.nest.Item.{Item}
@@ -26,11 +26,11 @@ use Rattle.ch_nestprint.specs.declared.symbol.Symbol.TheVariants.{Name, Key, Mar
 use Rattle.ch_nestprint.specs.Back.{IsReadAs}
 use Rattle.ch_nestprint.specs.Cuts.{Shows}
 use Rattle.ch_nestprint.specs.Minus.{minus_in_items}
-use Rattle.ch_nestprint.specs.Names.{longest}
+use Rattle.ch_nestprint.specs.Names.{letters_for}
 use Rattle.ch_nestprint.specs.Printable.{IsPrintable}
 use Rattle.ch_nestprint.specs.Printed.{arrays_symbols, item_step, item_symbols, items_symbols, lets_symbols, program_symbols}
 use Rattle.ch_nestprint.proofs.ArraysRead.{ArraysAfter, arrays_given}
-use Rattle.ch_nestprint.proofs.Cases.{by_items, fold_assign, fold_loop}
+use Rattle.ch_nestprint.proofs.Cases.{by_items, fold_assign, fold_if, fold_loop}
 use Rattle.ch_nestprint.proofs.ItemsRead.{items_given}
 use Rattle.ch_nestprint.proofs.LetsRead.{IsEnd, LetsAfter, lets_given}
 use Rattle.ch_nestprint.proofs.RightsRead.{Known}
@@ -45,7 +45,8 @@ numbered_to (Some m) h = (m, refl)
 item_word : (word : Keyword) → is_keyword word (looks.Keyword words.For) ≡ false → (arrays : List ArrayDecl) (letters : ℕ) (item : Item) (depth : ℕ) (xs : List Symbol)
     → is_keyword word (front (item_symbols arrays letters item depth ++ xs)) ≡ false
 item_word word h arrays letters = by_items (λ item. (depth : ℕ) (xs : List Symbol) → is_keyword word (front (item_symbols arrays letters item depth ++ xs)) ≡ false)
-    (λ lows highs items again depth xs. ap (λ f. is_keyword word (front (f depth ++ xs))) (fold_loop (item_step arrays letters) lows highs items) ∙ h)
+    (λ lows highs step items again depth xs. ap (λ f. is_keyword word (front (f depth ++ xs))) (fold_loop (item_step arrays letters) lows highs step items) ∙ h)
+    (λ row items again depth xs. ap (λ f. is_keyword word (front (f depth ++ xs))) (fold_if (item_step arrays letters) row items))
     (λ label body depth xs. ap (λ f. is_keyword word (front (f depth ++ xs))) (fold_assign (item_step arrays letters) label body))
 
 items_word : (word : Keyword) → is_keyword word (looks.Keyword words.For) ≡ false → (arrays : List ArrayDecl) (letters : ℕ) (items : List Item) (rest : List Symbol)
@@ -77,11 +78,12 @@ section_given : (bytes name : List ℕ) (nest : LoopNest) (fills : List Fill) (t
     → Given (IsSection name nest fills) (section_at bytes ts)
 unfolding section_at
 section_given bytes name nest fills ts formed p sees =
-    let parts = and_parts (arrays_fit nest.arrays) (is_some (all_numbered nest.items 0) && items_fit nest.arrays nest.items []) formed in
-    let shapes = and_parts (list_all is_array nest.arrays) (nat_le (total nest.arrays) most_cells) parts.0 in
+    let parts = and_parts (arrays_fit nest.arrays && all_conditions_fit nest.items most_conditions) (is_some (all_numbered nest.items 0) && items_fit nest.arrays nest.items []) formed in
+    let halves = and_parts (arrays_fit nest.arrays) (all_conditions_fit nest.items most_conditions) parts.0 in
+    let shapes = and_parts (list_all is_array nest.arrays) (nat_le (total (extents_of nest.arrays)) most_cells) halves.0 in
     let items_parts = and_parts (is_some (all_numbered nest.items 0)) (items_fit nest.arrays nest.items []) parts.1 in
     let labels = numbered_to (all_numbered nest.items 0) items_parts.0 in
-    let letters = longest nest.arrays in
+    let letters = letters_for nest.arrays in
     let sizes = minus_in_items nest.items in
     let lets = lets_symbols letters [] sizes in
     let arrays = arrays_symbols nest.arrays fills in
@@ -99,10 +101,10 @@ section_given bytes name nest fills ts formed p sees =
     given_bind (Passed bytes second) goal (sign_at bytes P1 signs.LeftBrace n.1) _ (sign_given bytes P1 signs.LeftBrace n.1 second b.1) (λ inside c.
     given_bind (LetsAfter bytes letters sizes third) goal (lets_at bytes inside) _ (lets_given bytes letters sizes inside third (arrays_word nest.arrays fills fourth (items_word words.Let refl nest.arrays letters nest.items [])) c) (λ l d.
     given_bind (ArraysAfter bytes nest.arrays fills letters sizes fourth) goal (arrays_at bytes l.0 l.1) _
-    (arrays_given bytes nest.arrays fills l.0 sizes l.1 fourth p.each d.0 p.differ shapes.0 (leb-true (total nest.arrays) most_cells shapes.1) (items_word words.Array refl nest.arrays letters nest.items []) d.1) (λ x e.
+    (arrays_given bytes nest.arrays fills l.0 sizes l.1 fourth p.each d.0 p.differ shapes.0 (leb-true (total (extents_of nest.arrays)) most_cells shapes.1) (items_word words.Array refl nest.arrays letters nest.items []) d.1) (λ x e.
     let known : Known x.0.names nest.arrays letters 0 = record { iterators = λ k h. absurd (omega arith); free = λ k h. e.0.free k; placed = e.0.placed } in
-    given_bind (Valued bytes (nest.items, labels.0) []) goal (items_at bytes (item_at bytes deepest x.0.names []) ([], 0) x.1) _
-    (items_given bytes nest.arrays letters shapes.0 nest.items x.0.names labels.0 x.1 [] known items_parts.1 labels.1 e.0.lets e.1) (λ y f.
+    given_bind (Valued bytes (nest.items, labels.0) []) goal (items_at bytes (item_at bytes most_conditions deepest x.0.names []) ([], 0) x.1) _
+    (items_given bytes nest.arrays letters shapes.0 nest.items x.0.names labels.0 x.1 [] known halves.1 items_parts.1 labels.1 e.0.lets e.1) (λ y f.
     given_ok goal _ (b.0, same_nest x.0.arrays nest.arrays y.0.0 nest.items e.0.arrays (ap (λ (z : Items). z.0) f.0), e.0.starts, none_left bytes y.1 f.1)))))))
 
 pub read_back : (text name : List ℕ) (nest : LoopNest) (fills : List Fill) → IsTrue (is_nest nest) → IsPrintable name nest.arrays fills → Shows text (program_symbols name nest fills) → IsReadAs text name nest fills

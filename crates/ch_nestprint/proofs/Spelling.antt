@@ -44,6 +44,10 @@ pub iterator_named : (letters level : ℕ) → is_name (iterator_name letters le
 unfolding keyword_of
 iterator_named letters level = and_from true _ refl (and_from _ true (made_words (codes "i") letters level refl) refl)
 
+pub if_named : is_name (codes "if") ≡ true
+unfolding keyword_of
+if_named = refl
+
 pub minus_named : (letters size : ℕ) → is_name (minus_name letters size) ≡ true
 unfolding keyword_of
 minus_named letters size = and_from true _ refl (and_from _ true (made_words (codes "minus") letters size refl) refl)

@@ -101,9 +101,18 @@ beginning_symbols letters level lows = Mark signs.LeftParen ∷ Name (iterator_n
 abbrev pub limit_symbols : ℕ → ℕ → List Form → List Symbol
 limit_symbols letters level highs = Mark signs.Semicolon ∷ Name (iterator_name letters level) ∷ highs_symbols letters highs
 
-abbrev pub step_symbols : ℕ → ℕ → List Symbol
-step_symbols letters level = Mark signs.Semicolon ∷ Name (iterator_name letters level) ∷ Mark signs.Increment ∷ Mark signs.RightParen ∷ []
+-- `++`, or what is added
+abbrev pub next_if : Bool → List ℕ → ℕ → List Symbol
+next_if true name step = Mark signs.Increment ∷ []
+next_if false name step = Mark signs.Equals ∷ Name name ∷ Mark signs.Plus ∷ Number step ∷ []
+
+abbrev pub next_symbols : List ℕ → ℕ → List Symbol
+next_symbols name step = Name name ∷ next_if (nat_eq step 1) name step
+
+abbrev pub step_symbols : ℕ → ℕ → ℕ → List Symbol
+step_symbols letters level step = (Mark signs.Semicolon ∷ next_symbols (iterator_name letters level) step) ++ Mark signs.RightParen ∷ []
 
 -- what stands between `for` and the body
-abbrev pub head_symbols : ℕ → ℕ → List Form → List Form → List Symbol
-head_symbols letters level lows highs = beginning_symbols letters level lows ++ limit_symbols letters level highs ++ step_symbols letters level
+abbrev pub head_symbols : ℕ → ℕ → List Form → List Form → ℕ → List Symbol
+head_symbols letters level lows highs step =
+    beginning_symbols letters level lows ++ limit_symbols letters level highs ++ step_symbols letters level step

@@ -1,4 +1,5 @@
 pub mod Back
+pub mod Conditions
 pub mod Cuts
 pub mod Ends
 pub mod Layouts

@@ -26,7 +26,8 @@ abbrev pub minus_in : Expr → List ℕ
 minus_in = fold-Expr (List ℕ) minus_step
 
 abbrev pub minus_item_step : Item-F (List ℕ) → List ℕ
-minus_item_step (Item-F.Loop lows highs items) = concat items
+minus_item_step (Item-F.Loop lows highs step items) = concat items
+minus_item_step (Item-F.If row items) = concat items
 minus_item_step (Item-F.Assign label body) = minus_in body.right
 
 abbrev pub minus_in_item : Item → List ℕ

@@ -1,5 +1,5 @@
 -- The symbols of a program, and its text.
-use Rattle.std.specs.Prelude.{ℕ, suc, ℤ, unsigned_abs, Bool, true, false, List, [], ◌∷◌, ◌++◌, map, nat_eq}
+use Rattle.std.specs.Prelude.{ℕ, suc, ℤ, unsigned_abs, Bool, true, false, List, [], ◌∷◌, ◌++◌, codes, map, nat_eq}
 use Rattle.std.specs.List.{flat_map, list_any}
 use Rattle.ch_lex.specs.declared.keyword.Keyword.TheVariants as words
 use Rattle.ch_lex.specs.declared.token.Sign.TheVariants as signs
@@ -11,10 +11,11 @@ use Rattle.ch_nest.specs.declared.nest.Fill.{Fill}
 use Rattle.ch_nest.specs.declared.nest.Item.{Item}
 use Rattle.ch_nest.specs.declared.nest.Item.TheFolds.{fold-Item}
 use Rattle.ch_nest.specs.declared.nest.Item.TheOpen.{Item-F}
+use Rattle.ch_nestprint.specs.Conditions.{condition_symbols}
 use Rattle.ch_nestprint.specs.Ends.{head_symbols, is_below}
 use Rattle.ch_nestprint.specs.Layouts.{first_layout, spell}
 use Rattle.ch_nestprint.specs.Minus.{minus_in_items}
-use Rattle.ch_nestprint.specs.Names.{longest, minus_name}
+use Rattle.ch_nestprint.specs.Names.{letters_for, minus_name}
 use Rattle.ch_nestprint.specs.Sides.{access_symbols, right_symbols}
 use Rattle.ch_nestprint.specs.declared.symbol.Symbol.{Symbol}
 use Rattle.ch_nestprint.specs.declared.symbol.Symbol.TheVariants.{Name, Number, Key, Mark}
@@ -33,8 +34,10 @@ each_below [] depth = []
 each_below (x ∷ xs) depth = x depth ++ each_below xs depth
 
 abbrev pub item_step : List ArrayDecl → ℕ → Item-F Below → Below
-item_step arrays letters (Item-F.Loop lows highs items) depth =
-    (Key words.For ∷ head_symbols letters depth lows highs) ++ (Mark signs.LeftBrace ∷ each_below items (suc depth)) ++ Mark signs.RightBrace ∷ []
+item_step arrays letters (Item-F.Loop lows highs step items) depth =
+    (Key words.For ∷ head_symbols letters depth lows highs step) ++ (Mark signs.LeftBrace ∷ each_below items (suc depth)) ++ Mark signs.RightBrace ∷ []
+item_step arrays letters (Item-F.If row items) depth =
+    (Name (codes "if") ∷ condition_symbols letters row) ++ (Mark signs.LeftBrace ∷ each_below items depth) ++ Mark signs.RightBrace ∷ []
 item_step arrays letters (Item-F.Assign label body) depth = assign_symbols arrays letters body
 
 abbrev pub item_symbols : List ArrayDecl → ℕ → Item → Below
@@ -88,7 +91,7 @@ abbrev pub parts_symbols : ℕ → List ArrayDecl → List Item → List Fill �
 parts_symbols letters arrays items fills = lets_symbols letters [] (minus_in_items items) ++ arrays_symbols arrays fills ++ items_symbols arrays letters items 0
 
 abbrev pub body_symbols : LoopNest → List Fill → List Symbol
-body_symbols nest fills = parts_symbols (longest nest.arrays) nest.arrays nest.items fills
+body_symbols nest fills = parts_symbols (letters_for nest.arrays) nest.arrays nest.items fills
 
 abbrev pub program_symbols : List ℕ → LoopNest → List Fill → List Symbol
 program_symbols name nest fills = (Key words.Program ∷ Name name ∷ Mark signs.LeftBrace ∷ body_symbols nest fills) ++ Mark signs.RightBrace ∷ []

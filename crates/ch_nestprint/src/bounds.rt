@@ -1,17 +1,16 @@
 ghost use Rattle.std.specs.Prelude.{◌≡◌, ◌<◌, ◌≤◌, ◌^◌, ℤ, pos, ◌≤ℤ◌, ◌<ℤ◌, ◌+ℤ◌, [], ◌∷◌, ◌++◌, OnOk, unsigned_abs, int_lt};
 ghost use Rattle.std.specs.List.{flat_map, list_all};
 ghost use Rattle.ch_nest.specs.Shape.{constant_fits};
-ghost use Rattle.ch_nestprint.specs.Ends.{beginning_symbols, comma_end, end_symbols, ends_symbols, head_symbols, highs_symbols, is_strict, limit_symbols, listed, lows_symbols, raised_if, relation, step_symbols};
+ghost use Rattle.ch_nestprint.specs.Ends.{beginning_symbols, comma_end, end_symbols, ends_symbols, head_symbols, highs_symbols, is_strict, limit_symbols, listed, lows_symbols, next_symbols, raised_if, relation, step_symbols};
+ghost use Rattle.ch_nestprint.specs.Names.{iterator_name};
 
 use crate::forms::put_form;
+use crate::limits::MOST_AFFINE;
 use crate::named::put_iterator;
-use crate::symbol::{Symbol, key, mark};
+use crate::symbol::{Symbol, key, mark, number};
 use ch_affine::{Aff, List};
 use ch_lex::{Keyword, Sign};
 use std::alloc::{AllocError, Global};
-
-/// The magnitude of a constant in a program's text.
-const MOST_AFFINE: u64 = 1 << 30;
 
 fn put_end(
     alloc: Global,
@@ -86,7 +85,7 @@ fn put_ends(
 fn constant_fits(form: &Aff) -> bool
     ensures { result ≡ constant_fits form.now }
 {
-    form.constant.unsigned_abs() <= MOST_AFFINE
+    form.constant.unsigned_abs() <= MOST_AFFINE as u64
 }
 
 fn all_constants_fit(highs: &[Aff]) -> bool
@@ -162,33 +161,63 @@ fn put_limit(
     put_highs(alloc, out, letters, highs)
 }
 
-/// Adds `;`, the iterator, `++` and `)`.
+/// Adds the iterator, and `++` or what is added to it from turn to turn.
+fn put_next(
+    alloc: Global,
+    out: &mut List<Symbol>,
+    letters: usize,
+    level: u64,
+    step: u32,
+) -> Result<(), AllocError>
+    ensures { OnOk result (out.new ≡ out.old ++ next_symbols (iterator_name letters level) step) }
+{
+    put_iterator(alloc, out, letters, level)?;
+    if step == 1 {
+        return mark(out, Sign::Increment);
+    }
+    mark(out, Sign::Equals)?;
+    put_iterator(alloc, out, letters, level)?;
+    mark(out, Sign::Plus)?;
+    number(out, u64::from(step))
+}
+
+/// Adds `;`, what the iterator grows by, and `)`.
 fn put_step(
     alloc: Global,
     out: &mut List<Symbol>,
     letters: usize,
     level: u64,
+    step: u32,
 ) -> Result<(), AllocError>
-    ensures { OnOk result (out.new ≡ out.old ++ step_symbols letters level) }
+    ensures { OnOk result (out.new ≡ out.old ++ step_symbols letters level step) }
 {
     mark(out, Sign::Semicolon)?;
-    put_iterator(alloc, out, letters, level)?;
-    mark(out, Sign::Increment)?;
+    put_next(alloc, out, letters, level, step)?;
     mark(out, Sign::RightParen)
 }
 
-/// Adds what stands between `for` and the body of a loop of this level.
+/// What stands between `for` and the body of a loop.
+#[derive(Clone, Copy, Debug)]
+pub struct Head<'a> {
+    /// How many loops stand around it.
+    pub level: u64,
+    pub lows: &'a [Aff],
+    pub highs: &'a [Aff],
+    pub step: u32,
+}
+
+/// Adds the head of a loop, behind its `for`.
 pub fn put_head(
     alloc: Global,
     out: &mut List<Symbol>,
     letters: usize,
-    level: u64,
-    lows: &[Aff],
-    highs: &[Aff],
+    head: &Head<'_>,
 ) -> Result<(), AllocError>
-    ensures { OnOk result (out.new ≡ out.old ++ head_symbols letters level lows.now highs.now) }
+    ensures { OnOk result
+        (out.new ≡ out.old
+        ++ head_symbols letters head.now.level head.now.lows.now head.now.highs.now head.now.step) }
 {
-    put_beginning(alloc, out, letters, level, lows)?;
-    put_limit(alloc, out, letters, level, highs)?;
-    put_step(alloc, out, letters, level)
+    put_beginning(alloc, out, letters, head.level, head.lows)?;
+    put_limit(alloc, out, letters, head.level, head.highs)?;
+    put_step(alloc, out, letters, head.level, head.step)
 }

@@ -3,9 +3,11 @@
 
 mod access;
 mod bounds;
+mod conditions;
 mod declared;
 mod forms;
 mod layout;
+mod limits;
 mod minus;
 mod named;
 mod printable;

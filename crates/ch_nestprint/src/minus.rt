@@ -37,6 +37,7 @@ fn item_sizes(found: &mut List<u64>, item: &Item) -> Result<(), AllocError>
     match item {
         Item::Loop { items, .. } => items_sizes(found, items.as_slice()),
         Item::Assign { body, .. } => add_sizes(found, &body.right),
+        Item::If { items, .. } => items_sizes(found, items.as_slice()),
     }
 }
 

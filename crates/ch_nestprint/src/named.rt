@@ -1,7 +1,7 @@
 ghost use Rattle.std.specs.Prelude.{◌≡◌, [], ◌∷◌, ◌++◌, replicate, IfOk, OnOk, IsTrue, codes};
-ghost use Rattle.std.specs.List.{list_all};
+ghost use Rattle.std.specs.List.{list_all, list_any, prefix_len};
 ghost use Rattle.std.specs.Char.{is_ascii};
-ghost use Rattle.ch_nestprint.specs.Names.{array_name, iterator_name, longest, made_name, minus_name};
+ghost use Rattle.ch_nestprint.specs.Names.{array_name, is_like, is_taken, is_underscore, iterator_name, letters_for, longest, made_name, minus_name};
 
 use crate::symbol::{Symbol, name};
 use ch_affine::{List, Text};
@@ -10,12 +10,53 @@ use ch_print::put_number;
 use std::alloc::{AllocError, Global};
 
 /// The length of the longest name of an array.
-pub fn longest(arrays: &[ArrayDecl]) -> usize
+fn longest(arrays: &[ArrayDecl]) -> usize
     ensures { result ≡ longest arrays.now }
 {
     let mut most = 0usize;
     for array in arrays {
         most = most.max(array.name.len());
+    }
+    most
+}
+
+/// How many underscores stand in front.
+fn underscores(bytes: &[u8]) -> usize
+    ensures { result ≡ prefix_len is_underscore bytes.now }
+{
+    bytes.iter().take_while(|b| **b == b'_').count()
+}
+
+/// Whether a name has this beginning, and so many underscores behind it.
+fn is_like(beginning: &[u8], letters: usize, name: &[u8]) -> bool
+    ensures { result ≡ is_like beginning.now letters name.now }
+{
+    name.starts_with(beginning) && underscores(&name[beginning.len()..]) == letters
+}
+
+fn is_taken(letters: usize, array: &ArrayDecl) -> bool
+    ensures { result ≡ is_taken letters array.now }
+{
+    let name = array.name.as_bytes();
+    is_like(b"i", letters, name) || is_like(b"minus", letters, name)
+}
+
+fn are_taken(letters: usize, arrays: &[ArrayDecl]) -> bool
+    ensures { result ≡ list_any (is_taken letters) arrays.now }
+{
+    arrays.iter().any(|array| is_taken(letters, array))
+}
+
+/// The fewest underscores that no array has taken for a name of its own.
+#[tactic(auto, using(crate::proofs::FirstFree::stays, crate::proofs::FirstFree::goes_on, crate::proofs::FirstFree::ends))]
+pub fn letters_for(arrays: &[ArrayDecl]) -> usize
+    ensures { result ≡ letters_for arrays.now }
+{
+    let most = longest(arrays);
+    for letters in 0..most {
+        if !are_taken(letters, arrays) {
+            return letters;
+        }
     }
     most
 }

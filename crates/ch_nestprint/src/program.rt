@@ -6,11 +6,12 @@ ghost use Rattle.ch_nestprint.specs.Printable.{IsPrintable};
 ghost use Rattle.ch_nestprint.specs.Printed.{assign_symbols, body_symbols, item_symbols, items_symbols, lets_symbols, parts_symbols, program_symbols, program_text};
 
 use crate::access::put_access;
-use crate::bounds::put_head;
+use crate::bounds::{Head, put_head};
+use crate::conditions::{put_condition, put_if};
 use crate::declared::{put_arrays, put_lets};
 use crate::layout::spell;
 use crate::minus::items_sizes;
-use crate::named::longest;
+use crate::named::letters_for;
 use crate::right::put_right;
 use crate::symbol::{Symbol, key, mark, name};
 use ch_affine::{List, Text};
@@ -53,22 +54,33 @@ fn put_item(
     ensures { OnOk result (out.new ≡ out.old ++ item_symbols arrays.now letters item.now depth) }
 {
     match item {
-        Item::Loop { lows, highs, items } => {
+        Item::Loop {
+            lows,
+            highs,
+            step,
+            items,
+        } => {
             key(out, Keyword::For)?;
-            put_head(
-                alloc,
-                out,
-                letters,
-                depth,
-                lows.as_slice(),
-                highs.as_slice(),
-            )?;
+            let head = Head {
+                level: depth,
+                lows: lows.as_slice(),
+                highs: highs.as_slice(),
+                step: *step,
+            };
+            put_head(alloc, out, letters, &head)?;
             mark(out, Sign::LeftBrace)?;
             let inside = deeper(depth)?;
             put_items(alloc, out, arrays, letters, items.as_slice(), inside)?;
             mark(out, Sign::RightBrace)
         }
         Item::Assign { body, .. } => put_assign(alloc, out, arrays, letters, body),
+        Item::If { row, items } => {
+            put_if(alloc, out)?;
+            put_condition(alloc, out, letters, row)?;
+            mark(out, Sign::LeftBrace)?;
+            put_items(alloc, out, arrays, letters, items.as_slice(), depth)?;
+            mark(out, Sign::RightBrace)
+        }
     }
 }
 
@@ -130,7 +142,7 @@ fn put_body(
     ensures { OnOk result (out.new ≡ out.old ++ body_symbols nest.now fills.now) }
 {
     let arrays = nest.arrays.as_slice();
-    let letters = longest(arrays);
+    let letters = letters_for(arrays);
     put_parts(alloc, out, letters, arrays, nest.items.as_slice(), fills)
 }
 
