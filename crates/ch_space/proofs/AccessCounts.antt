@@ -15,16 +15,17 @@ use Rattle.ch_nest.specs.declared.nest.Expr.TheOpen.{Expr-F}
 use Rattle.ch_nest.specs.declared.nest.Expr.TheFolds.{fold-roll-Expr, ind-Expr}
 use Rattle.ch_nest.specs.declared.nest.Item.{Item}
 use Rattle.ch_nest.specs.declared.nest.Item.TheOpen.{Item-F}
-use Rattle.ch_nest.specs.declared.nest.Item.TheVariants.{Loop, Assign, rolls-Loop, rolls-Assign}
+use Rattle.ch_nest.specs.declared.nest.Item.TheVariants.{Loop, If, Assign, rolls-Loop, rolls-If, rolls-Assign}
 use Rattle.ch_nest.specs.declared.nest.Item.TheFolds.{fold-roll-Item}
 use Rattle.ch_nest.specs.Limits.{most_operands, most_statements, most_nesting}
 use Rattle.ch_nest.specs.LoopNest.{LoopNest}
 use Rattle.ch_nest.specs.Shape.{Numbering, access_fits, after, all_numbered, arrays_fit, body_fits, box_of, each_numbered, expr_fits, head_fits, is_nest, is_small, item_fits, items_fit, nested, numbered, numbered_step, operands, operands_step, parts_fit}
 use Rattle.ch_nest.specs.declared.exprs.Standing.TheVariants.{Term}
-use Rattle.ch_nest.proofs.Fits.{loop_fits_is}
+use Rattle.ch_nest.proofs.Fits.{if_fit, loop_fits_is}
 use Rattle.ch_nest.proofs.Turns.{assign_fits_is}
+use Rattle.ch_space.proofs.Bodies.{nest_fits, nest_numbered}
 use Rattle.ch_space.specs.Judged.{access_count, accesses_before, bodies, bodies_of}
-use Rattle.ch_space.proofs.Subscripted.{assign_bodies, loop_bodies}
+use Rattle.ch_space.proofs.Subscripted.{assign_bodies, if_bodies, loop_bodies}
 use Rattle.ch_timed.specs.Conflict.{reads, reads_step}
 use Rattle.ch_timed.specs.declared.element.Label.TheVariants.{Stmt}
 use Rattle.ch_timed.specs.Members.{Each}
@@ -82,8 +83,11 @@ after_parts : (o : Option ℕ) (next : Numbering) (m : ℕ) → after o next ≡
 after_parts None next m h = absurd cc
 after_parts (Some j) next m h = (j, (refl, h))
 
-numbered_loop : (lows highs : List Form) (items : List Item) (k : ℕ) → numbered (Loop lows highs items) k ≡ each_numbered (map numbered items) k
-numbered_loop lows highs items k = ap (λ f. f k) (ap numbered (sym (rolls-Loop lows highs items)) ∙ fold-roll-Item Numbering numbered_step _)
+numbered_loop : (lows highs : List Form) (step : ℕ) (items : List Item) (k : ℕ) → numbered (Loop lows highs step items) k ≡ each_numbered (map numbered items) k
+numbered_loop lows highs step items k = ap (λ f. f k) (ap numbered (sym (rolls-Loop lows highs step items)) ∙ fold-roll-Item Numbering numbered_step _)
+
+numbered_if : (row : Form) (items : List Item) (k : ℕ) → numbered (If row items) k ≡ each_numbered (map numbered items) k
+numbered_if row items k = ap (λ f. f k) (ap numbered (sym (rolls-If row items)) ∙ fold-roll-Item Numbering numbered_step _)
 
 numbered_assign : (label : ℕ) (body : Body) (k : ℕ) → numbered (Assign label body) k ≡ numbered_step (Item-F.Assign label body) k
 numbered_assign label body k = ap (λ f. f k) (ap numbered (sym (rolls-Assign label body)) ∙ fold-roll-Item Numbering numbered_step _)
@@ -115,12 +119,16 @@ module _ (arrays : List ArrayDecl) where
       let y = b.few in
       record { last = λ l. b.last (a.last l); few = omega arith }
 
-  weighed_loop : (lows highs : List Form) (items : List Item) → Each Weighed items → Weighed (Loop lows highs items)
-  weighed_loop lows highs items h boxes k m fit e =
-      let g = rw (loop_fits_is arrays lows highs items boxes) at fit in
+  weighed_loop : (lows highs : List Form) (step : ℕ) (items : List Item) → Each Weighed items → Weighed (Loop lows highs step items)
+  weighed_loop lows highs step items h boxes k m fit e =
+      let g = rw (loop_fits_is arrays lows highs step items boxes) at fit in
       let below = and_parts (is_small (box_of boxes lows highs)) (items_fit arrays items (boxes ++ box_of boxes lows highs ∷ []))
-      ((and_parts (head_fits (length boxes) lows highs && nat_lt 0 (length (map (item_fits arrays) items))) (is_small (box_of boxes lows highs) && items_fit arrays items (boxes ++ box_of boxes lows highs ∷ [])) g).1) in
-      rw (loop_bodies lows highs items) (each_weighed items h (boxes ++ box_of boxes lows highs ∷ []) k m below.1 (sym (numbered_loop lows highs items k) ∙ e))
+      ((and_parts (head_fits (length boxes) lows highs step && nat_lt 0 (length (map (item_fits arrays) items))) (is_small (box_of boxes lows highs) && items_fit arrays items (boxes ++ box_of boxes lows highs ∷ [])) g).1) in
+      rw (loop_bodies lows highs step items) (each_weighed items h (boxes ++ box_of boxes lows highs ∷ []) k m below.1 (sym (numbered_loop lows highs step items k) ∙ e))
+
+  weighed_if : (row : Form) (items : List Item) → Each Weighed items → Weighed (If row items)
+  weighed_if row items h boxes k m fit e =
+      rw (if_bodies row items) (each_weighed items h boxes k m (if_fit arrays (If row items) row items boxes refl fit).inner (sym (numbered_if row items k) ∙ e))
 
   weighed_assign : (label : ℕ) (body : Body) → Weighed (Assign label body)
   weighed_assign label body boxes k m fit e =
@@ -131,7 +139,7 @@ module _ (arrays : List ArrayDecl) where
       rw (assign_bodies label body) (record { last = λ l. omega arith; few = omega arith })
 
   weighed : (items : List Item) → Each Weighed items
-  weighed = each_item Weighed weighed_loop weighed_assign
+  weighed = each_item Weighed weighed_loop weighed_if weighed_assign
 
 some_of : (o : Option ℕ) → is_some o ≡ true → (m : ℕ) × (o ≡ Some m)
 some_of None h = absurd cc
@@ -139,10 +147,8 @@ some_of (Some m) h = (m, refl)
 
 pub nest_few : (nest : LoopNest) → IsTrue (is_nest nest) → sum (map access_count (bodies nest.items)) ≤ 4112
 nest_few nest h =
-    let rest = and_parts (is_some (all_numbered nest.items 0)) (items_fit nest.arrays nest.items [])
-    ((and_parts (arrays_fit nest.arrays) (is_some (all_numbered nest.items 0) && items_fit nest.arrays nest.items []) h).1) in
-    let number = some_of (all_numbered nest.items 0) rest.0 in
-    let w = each_weighed nest.arrays nest.items (weighed nest.arrays nest.items) [] 0 number.0 rest.1 number.1 in
+    let number = some_of (all_numbered nest.items 0) (nest_numbered nest h) in
+    let w = each_weighed nest.arrays nest.items (weighed nest.arrays nest.items) [] 0 number.0 (nest_fits nest h) number.1 in
     let most : number.0 ≤ 16 = w.last (omega arith) in
     let few = w.few in
     omega arith

@@ -1,9 +1,8 @@
 -- The pieces of a nest's statements make a space that stands for the nest's list.
 use Rattle.std.proofs.Common.{◌≡◌, ◌≢◌, refl, sym, ap, ap₂, ◌∙◌, subst, ℕ, zero, suc, ◌+◌, ◌*◌, ◌^◌, ◌<◌, ◌≤◌, ℤ, pos, Bool, true, false, cond, ◌&&◌, nat_le, nat_lt, List, [], ◌∷◌, ◌++◌, length, map, inl, inr, arith, append_assoc, length-append}
 use Rattle.std.specs.Bool.{IsTrue}
-use Rattle.std.specs.Option.{is_some}
 use Rattle.std.specs.List.{All, filter, flat_map, list_all, sum}
-use Rattle.std.proofs.lemmas.Bool.{and_parts, lt-ltb, ltb-true}
+use Rattle.std.proofs.lemmas.Bool.{and_parts, leb-true, lt-ltb, ltb-true}
 use Rattle.std.proofs.lemmas.Int.{ints}
 use Rattle.std.proofs.lemmas.List.{length-map}
 use Rattle.std.proofs.lemmas.List.Elements.{All-nil, All-cons}
@@ -11,30 +10,29 @@ use Rattle.std.specs.Ordering.{int_cmp}
 use Rattle.std.specs.declared.cmp.Ordering.TheVariants.{Less}
 use Rattle.std.specs.Cmp.Lexicographic.{slice_cmp}
 use Rattle.ch_affine.specs.Affine.{IsAtMost, value}
-use Rattle.ch_affine.specs.declared.system.Range.{Range}
 use Rattle.ch_nest.specs.declared.nest.Access.{Access}
 use Rattle.ch_nest.specs.declared.nest.ArrayDecl.{ArrayDecl}
-use Rattle.ch_nest.specs.Arrays.{total}
+use Rattle.ch_nest.specs.Arrays.{extents_of, total}
 use Rattle.ch_nest.specs.Limits.{most_cells, most_work}
 use Rattle.ch_nest.specs.LoopNest.{LoopNest}
-use Rattle.ch_nest.specs.Shape.{all_numbered, arrays_fit, box_of, is_array, is_nest, items_fit, IsSmall}
-use Rattle.ch_nest.specs.Sound.{items_work}
+use Rattle.ch_nest.specs.Shape.{access_fits, arrays_fit, is_array, is_nest}
+use Rattle.ch_nest.specs.Sound.{is_sound, items_inside, items_work}
 use Rattle.ch_nest.proofs.Corners.{lies_small}
-use Rattle.ch_space.specs.declared.level.Level.{Level}
 use Rattle.ch_space.specs.declared.piece.Piece.{Piece}
-use Rattle.ch_space.specs.Built.{zeros, unit, units, boxes_from, piece_of}
+use Rattle.ch_space.specs.Built.{zeros, unit, units, boxes_from, hidden_boxes, piece_of}
 use Rattle.ch_space.specs.Keeps.{IsWhole, places_of, AllLater, AreApart, accesses, IsBody, IsLimited, IsMoveBelow, IsReached, IsSpace, most_pieces}
 use Rattle.ch_space.specs.Pieces.{element_at, elements, instances, listed}
-use Rattle.ch_space.specs.Statements.{Statement, statements, executed, instances_of}
+use Rattle.ch_space.specs.Statements.{Statement, statements, executed, instances_of, loops, steps}
 use Rattle.ch_space.specs.Fitting.{LevelsFit}
-use Rattle.ch_space.proofs.Bodies.{all_from_each, each_in, few_arrays, Fits, body_accesses, is_body, same_dimensions}
-use Rattle.ch_space.proofs.Builds.{levels_few}
+use Rattle.ch_space.proofs.Bodies.{all_from_each, each_in, few_arrays, Fits, body_accesses, is_body, nest_arrays, nest_fits, same_dimensions}
+use Rattle.ch_space.proofs.Builds.{length_hidden, small_boxes}
 use Rattle.ch_space.proofs.Counted.{in_instances, instances_in, instances_counted}
 use Rattle.ch_space.proofs.Findings.{element_of, start_found, found_start}
 use Rattle.ch_space.proofs.Membership.{in_flat, flat_in, in_filter, filter_in}
-use Rattle.ch_space.proofs.Reached.{body_reaches, values_affine}
+use Rattle.ch_space.proofs.Reached.{element_reaches}
 use Rattle.ch_space.proofs.NestLimits.{few_executed, length_units, limited, unwrapped}
 use Rattle.ch_space.proofs.PieceElements.{each_from_in}
+use Rattle.ch_space.proofs.PieceNumbers.{elements_differ}
 use Rattle.ch_space.proofs.Rowed.{dot_zeros, dot_front, one_times, lies_between}
 use Rattle.ch_space.proofs.Shapes.{length_boxes, IsFit, Shape, shaped, key, IsEarlier}
 use Rattle.ch_space.proofs.Sums.{instances_few, sum_first}
@@ -46,7 +44,7 @@ use Rattle.ch_timed.specs.Start.{start}
 use Rattle.ch_timed.specs.Timed.{is_well_formed}
 use Rattle.ch_timed.specs.Vectors.{woven}
 use Rattle.ch_timed.proofs.Blocks.{start_ascends}
-use Rattle.ch_timed.proofs.Orders.{IsAscending, OneEach, ascending_same, from_order, in_map, map_in, not_itself, ordered_ascends, to_order}
+use Rattle.ch_timed.proofs.Orders.{IsAscending, ascending_same, from_order, in_map, map_in, ordered_ascends, to_order}
 use Rattle.ch_timed.proofs.WellFormed.{start_fine}
 
 -- the forms of single variables
@@ -69,9 +67,9 @@ units_value pre (x ∷ xs) =
     ∙ ap (λ p. map (λ f. value f p) (units (length (pre ++ x ∷ [])) (length xs))) (sym (append_assoc pre (x ∷ []) xs))
     ∙ units_value (pre ++ x ∷ []) xs)
 
-pub element_same : (s : Statement) (xs : List ℤ) → length xs ≡ length s.levels → element_at (piece_of s) xs ≡ element_of s xs
+pub element_same : (s : Statement) (xs : List ℤ) → length xs ≡ loops s.around → element_at (piece_of s) xs ≡ element_of s xs
 element_same s xs e =
-    let iters : map (λ f. value f xs) (units 0 (length s.levels)) ≡ xs = ap (λ n. map (λ f. value f xs) (units 0 n)) (sym e) ∙ units_value [] xs in
+    let iters : map (λ f. value f xs) (units 0 (loops s.around)) ≡ xs = ap (λ n. map (λ f. value f xs) (units 0 n)) (sym e) ∙ units_value [] xs in
     λ i. record { identity = record { label = Stmt s.label; iters = iters i }; vector = woven (map pos s.places) xs; body = s.body }
 
 units_fit : (before n : ℕ) → Each (λ f. length f.coefs ≡ before + n) (units before n)
@@ -118,7 +116,7 @@ later : (s : Statement) (ss : List Statement) → Each (IsEarlier s) ss → AllL
 later s [] h = tt
 later s (t ∷ ss) h = (h.0, later s ss h.1)
 
-has_some : (s : Statement) → LevelsFit [] s.levels → IsExecuted s → instances (piece_of s) ≢ []
+has_some : (s : Statement) → LevelsFit [] s.around → IsExecuted s → instances (piece_of s) ≢ []
 has_some s fit some none =
     let a : length (instances (piece_of s)) ≡ 0 = ap length none in
     let b = instances_counted s fit in
@@ -129,29 +127,18 @@ whole : (arrays : List ArrayDecl) (s : Statement) → IsFit arrays s → IsWhole
 whole arrays s fit = record {
   places = fit.places;
   variables = omega arith;
-  boxes = let e = length_boxes [] s.levels in omega arith;
-  origin = all_from_each (λ f. length f.coefs ≡ length s.levels) (units 0 (length s.levels))
-      (subst (λ m. Each (λ f. length f.coefs ≡ m) (units 0 (length s.levels))) (omega arith) (units_fit 0 (length s.levels)));
+  boxes =
+      let e = length_boxes [] s.around in
+      let h = length_hidden [] s.around in
+      let b = length-append (boxes_from [] s.around) (hidden_boxes (boxes_from [] s.around) s.around) in
+      omega arith;
+  origin = all_from_each (λ f. length f.coefs ≡ loops s.around) (units 0 (loops s.around))
+      (subst (λ m. Each (λ f. length f.coefs ≡ m) (units 0 (loops s.around))) (omega arith) (units_fit 0 (loops s.around)));
 }
 
 apart : (arrays : List ArrayDecl) (ss : List Statement) → Each (IsFit arrays) ss → Each IsExecuted ss → IsAscending key ss → AreApart (map piece_of ss)
 apart arrays [] fit some a = tt
 apart arrays (s ∷ ss) fit some a = (whole arrays s fit.0, has_some s fit.0.levels some.0, later s ss a.0, apart arrays ss fit.1 some.1 a.1)
-
-small_boxes : (boxes : List Range) (ls : List Level) → LevelsFit boxes ls → All IsSmall (boxes_from boxes ls)
-small_boxes boxes [] fit = All-nil IsSmall
-small_boxes boxes (l ∷ ls) fit = All-cons IsSmall (box_of boxes l.lows l.highs) (boxes_from (boxes ++ box_of boxes l.lows l.highs ∷ []) ls) fit.1 (small_boxes (boxes ++ box_of boxes l.lows l.highs ∷ []) ls fit.2)
-
--- in an ascending list the elements at one vector are one
-never_less : (e f : Element) → slice_cmp int_cmp e.vector f.vector ≡ Less → e.vector ≡ f.vector → ⊥
-never_less e f h v = not_itself (λ e. e.vector) f (subst (λ w. slice_cmp int_cmp w f.vector ≡ Less) v h)
-
-one_of : (es : List Element) → IsAscending (λ e. e.vector) es → OneEach (λ e. e.vector) es
-one_of [] a e f i j v = absurd i
-one_of (x ∷ xs) a e f (inl k) (inl l) v = sym k ∙ l
-one_of (x ∷ xs) a e f (inl k) (inr j) v = absurd (never_less x f (each_in _ xs f a.0 j) (ap (λ z. z.vector) k ∙ v))
-one_of (x ∷ xs) a e f (inr i) (inl l) v = absurd (never_less x e (each_in _ xs e a.0 i) (ap (λ z. z.vector) l ∙ sym v))
-one_of (x ∷ xs) a e f (inr i) (inr j) v = one_of xs a.1 e f i j v
 
 abbrev pub pieces_of : LoopNest → List Piece
 pieces_of nest = map piece_of (executed (statements nest.items))
@@ -161,14 +148,13 @@ counts_of nest = map instances_of (executed (statements nest.items))
 
 module _ (nest : LoopNest) (known : IsTrue (is_nest nest)) where
   arrays_in_order : IsTrue (arrays_fit nest.arrays)
-  arrays_in_order = (and_parts (arrays_fit nest.arrays) (is_some (all_numbered nest.items 0) && items_fit nest.arrays nest.items []) known).0
+  arrays_in_order = nest_arrays nest known
 
   each_array : IsTrue (list_all is_array nest.arrays)
-  each_array = (and_parts (list_all is_array nest.arrays) (nat_le (total nest.arrays) most_cells) arrays_in_order).0
+  each_array = (and_parts (list_all is_array nest.arrays) (nat_le (total (extents_of nest.arrays)) most_cells) arrays_in_order).0
 
   shape : Shape nest.arrays nest.items
-  shape = shaped nest.arrays nest.items
-      (and_parts (is_some (all_numbered nest.items 0)) (items_fit nest.arrays nest.items []) (and_parts (arrays_fit nest.arrays) (is_some (all_numbered nest.items 0) && items_fit nest.arrays nest.items []) known).1).1
+  shape = shaped nest.arrays nest.items (nest_fits nest known)
 
   fit_of : (s : Statement) → In s (statements nest.items) → IsFit nest.arrays s
   fit_of s i = each_in (IsFit nest.arrays) (statements nest.items) s shape.fit i
@@ -188,7 +174,7 @@ module _ (nest : LoopNest) (known : IsTrue (is_nest nest)) where
       let there : In e (elements (piece_of s.0)) = subst (λ q. In e (elements q)) (sym s.1.1) p.1.1 in
       let x = in_map (element_at (piece_of s.0)) (instances (piece_of s.0)) e there in
       let b = in_instances s.0 x.0 (fit_of s.0 s.1.0).levels x.1.0 in
-      let same = element_same s.0 x.0 (length_between [] s.0.levels x.0 b) in
+      let same = element_same s.0 x.0 (length_between [] s.0.around x.0 b) in
       subst (λ z. In z (start nest)) (sym same ∙ x.1.1) (found_start nest s.0 x.0 s.1.0 b)
 
   start_elements : (e : Element) → In e (start nest) → In e (flat_map elements (pieces_of nest))
@@ -199,7 +185,7 @@ module _ (nest : LoopNest) (known : IsTrue (is_nest nest)) where
       let some : 0 < length (instances (piece_of h.s)) = in_some (instances (piece_of h.s)) h.xs inst in
       let n = instances_counted h.s fit in
       let kept = filter_in (λ s. nat_lt 0 (instances_of s)) (statements nest.items) h.s h.there (lt-ltb 0 (instances_of h.s) (omega arith)) in
-      let same = element_same h.s h.xs (length_between [] h.s.levels h.xs h.inside) in
+      let same = element_same h.s h.xs (length_between [] h.s.around h.xs h.inside) in
       flat_in elements (pieces_of nest) (piece_of h.s) e (map_in piece_of (executed (statements nest.items)) h.s kept)
       (subst (λ z. In z (elements (piece_of h.s))) (same ∙ h.is) (map_in (element_at (piece_of h.s)) (instances (piece_of h.s)) h.xs inst))
     where
@@ -207,53 +193,55 @@ module _ (nest : LoopNest) (known : IsTrue (is_nest nest)) where
       in_some [] x i = absurd i
       in_some (y ∷ ys) x i = omega arith
 
+  pieces_apart : AreApart (pieces_of nest)
+  pieces_apart = apart nest.arrays (executed (statements nest.items)) kept_fit (each_executed (statements nest.items))
+      (ascend_filter (λ s. nat_lt 0 (instances_of s)) (statements nest.items) shape.ascend)
+
   -- the pieces stand for the list of the nest
   pub listed_is : listed (pieces_of nest) ≡ start nest
   listed_is =
-      ascending_same (λ e. e.vector) (listed (pieces_of nest)) (start nest) (ordered_ascends (λ e. e.vector) (flat_map elements (pieces_of nest))) (start_ascends nest)
+      ascending_same (λ e. e.vector) (listed (pieces_of nest)) (start nest) (ordered_ascends (λ e. e.vector) (flat_map elements (pieces_of nest)) (elements_differ (pieces_of nest) pieces_apart)) (start_ascends nest)
       (λ e i. elements_start e (from_order (λ e. e.vector) (flat_map elements (pieces_of nest)) e i))
-      (λ e i. to_order (λ e. e.vector) (flat_map elements (pieces_of nest))
-      (λ f g j k. one_of (start nest) (start_ascends nest) f g (elements_start f j) (elements_start g k)) e (start_elements e i))
+      (λ e i. to_order (λ e. e.vector) (flat_map elements (pieces_of nest)) e (start_elements e i))
 
   near_of : (e : Element) → In e (start nest) → All (IsAtMost (2 ^ 54)) e.identity.iters
   near_of e i =
       let h = start_found nest e i in
       let fit = (fit_of h.s h.there).levels in
       subst (λ z. All (IsAtMost (2 ^ 54)) z.identity.iters) h.is
-      (lies_small (boxes_from [] h.s.levels) h.xs (small_boxes [] h.s.levels fit) (lies_between h.s.levels h.xs fit h.inside))
+      (lies_small (boxes_from [] h.s.around) h.xs (small_boxes [] h.s.around fit) (lies_between h.s.around h.xs fit h.inside))
 
-  reached_of : (e : Element) → In e (start nest) → All (λ a. All (IsReached e.identity.iters) a.subs) (accesses e.body)
-  reached_of e i =
+  reached_of : IsTrue (items_inside (extents_of nest.arrays) nest.items []) → (e : Element) → In e (start nest) → All (λ a. All (IsReached e.identity.iters) a.subs) (accesses e.body)
+  reached_of inside e i =
       let h = start_found nest e i in
-      let fit = fit_of h.s h.there in
-      let few = levels_few [] h.s.levels fit.levels (omega arith) in
-      subst (λ z. All (λ a. All (IsReached z.identity.iters) a.subs) (accesses z.body)) h.is
-      (body_reaches nest.arrays (length h.s.levels) h.s.body h.xs (omega arith) fit.body
-      (values_affine (boxes_from [] h.s.levels) h.xs (small_boxes [] h.s.levels fit.levels) (lies_between h.s.levels h.xs fit.levels h.inside)))
+      let n = loops h.s.around in
+      element_reaches nest n e known inside i
+      (subst (λ z. Each (λ a. IsTrue (access_fits nest.arrays n a)) (accesses z.body)) h.is (body_accesses nest.arrays n h.s.body (fit_of h.s h.there).body))
 
   fits_access : (a : Access) → In a (flat_map (λ p. accesses p.body) (pieces_of nest)) → (n : ℕ) × Fits nest.arrays n a
   fits_access a i =
       let p = in_flat (λ p. accesses p.body) (pieces_of nest) a i in
       let s = statement_of p.0 p.1.0 in
       let there : In a (accesses s.0.body) = subst (λ q. In a (accesses q.body)) (sym s.1.1) p.1.1 in
-      let n = length s.0.levels in
+      let n = loops s.0.around in
       (n, each_in (Fits nest.arrays n) (accesses s.0.body) a (body_accesses nest.arrays n s.0.body (fit_of s.0 s.1.0).body) there)
 
   bodies_kept : All (λ p. IsBody (length nest.arrays) 0 (length p.origin) p.body) (pieces_of nest)
   bodies_kept = all_from_each (λ p. IsBody (length nest.arrays) 0 (length p.origin) p.body) (pieces_of nest) (each_from_in _ (pieces_of nest) (λ p i.
       let s = statement_of p i in
       subst (λ q. IsBody (length nest.arrays) 0 (length q.origin) q.body) s.1.1
-      (subst (λ n. IsBody (length nest.arrays) 0 n s.0.body) (sym (length_units 0 (length s.0.levels)))
-      (is_body nest.arrays (length s.0.levels) s.0.body each_array (fit_of s.0 s.1.0).body))))
+      (subst (λ n. IsBody (length nest.arrays) 0 n s.0.body) (sym (length_units 0 (loops s.0.around)))
+      (is_body nest.arrays (loops s.0.around) s.0.body each_array (fit_of s.0 s.1.0).body))))
 
-  -- and they make a space, where the nest does not take too many turns
-  pub assembled : items_work nest.items [] ≤ most_work → IsSpace (length nest.arrays) (pieces_of nest) (counts_of nest) [] 1 0
-  assembled few =
+  -- and they make a space, where the nest can be run
+  pub assembled : IsTrue (is_sound nest) → IsSpace (length nest.arrays) (pieces_of nest) (counts_of nest) [] 1 0
+  assembled sound =
+      let parts = and_parts (items_inside (extents_of nest.arrays) nest.items []) (nat_le (items_work nest.items []) most_work) sound in
+      let work : items_work nest.items [] ≤ most_work = leb-true (items_work nest.items []) most_work parts.1 in
       let a = instances_few nest.items in
       let b = sum_filter (λ s. nat_lt 0 (instances_of s)) (statements nest.items) in
       let c = few_arrays nest.arrays arrays_in_order in record {
-        apart = apart nest.arrays (executed (statements nest.items)) kept_fit (each_executed (statements nest.items))
-            (ascend_filter (λ s. nat_lt 0 (instances_of s)) (statements nest.items) shape.ascend);
+        apart = pieces_apart;
         well_formed = subst (λ es. IsTrue (is_well_formed es)) (sym listed_is) (start_fine nest known);
         counted = counted nest.arrays (executed (statements nest.items)) kept_fit;
         few = omega arith;
@@ -275,5 +263,5 @@ module _ (nest : LoopNest) (known : IsTrue (is_nest nest)) where
             (all_from_each (λ e. All (IsAtMost (2 ^ 54)) e.identity.iters) (start nest) (each_from_in _ (start nest) near_of));
         wrapped = unwrapped (length nest.arrays) (pieces_of nest) bodies_kept;
         reached = subst (λ es. All (λ e. All (λ a. All (IsReached e.identity.iters) a.subs) (accesses e.body)) es) (sym listed_is)
-            (all_from_each (λ e. All (λ a. All (IsReached e.identity.iters) a.subs) (accesses e.body)) (start nest) (each_from_in _ (start nest) reached_of));
+            (all_from_each (λ e. All (λ a. All (IsReached e.identity.iters) a.subs) (accesses e.body)) (start nest) (each_from_in _ (start nest) (reached_of parts.0)));
       }

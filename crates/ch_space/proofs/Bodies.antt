@@ -5,7 +5,8 @@ use Rattle.std.specs.List.{All, list_all}
 use Rattle.std.specs.Option.{option_map_or}
 use Rattle.std.proofs.lemmas.Bool.{and_parts, eqb-true, leb-true}
 use Rattle.std.proofs.lemmas.List.Elements.{All-nil, All-cons}
-use Rattle.ch_nest.specs.Arrays.{cells_in, total}
+use Rattle.std.specs.Option.{is_some}
+use Rattle.ch_nest.specs.Arrays.{cells_in, extents_of, total}
 use Rattle.ch_nest.specs.declared.nest.Access.{Access}
 use Rattle.ch_nest.specs.declared.nest.ArrayDecl.{ArrayDecl}
 use Rattle.ch_nest.specs.declared.nest.Body.{Body}
@@ -13,11 +14,29 @@ use Rattle.ch_nest.specs.declared.nest.Expr.{Expr, map-Expr}
 use Rattle.ch_nest.specs.declared.nest.Expr.TheOpen.{Expr-F}
 use Rattle.ch_nest.specs.declared.nest.Expr.TheFolds.{fold-roll-Expr, ind-Expr}
 use Rattle.ch_nest.specs.declared.nest.Sub.{Sub}
-use Rattle.ch_nest.specs.Limits.{most_cells, most_dimensions}
-use Rattle.ch_nest.specs.Shape.{access_fits, arrays_fit, body_fits, coefs_fit, constant_fits, expr_fits, form_fits, has_dimensions, is_array, parts_fit, parts_fit_step, sub_fits}
+use Rattle.ch_nest.specs.Limits.{most_cells, most_conditions, most_dimensions}
+use Rattle.ch_nest.specs.LoopNest.{LoopNest}
+use Rattle.ch_nest.specs.Shape.{access_fits, all_conditions_fit, all_numbered, arrays_fit, body_fits, coefs_fit, constant_fits, expr_fits, form_fits, has_dimensions, is_array, is_nest, items_fit, parts_fit, parts_fit_step, sub_fits}
 use Rattle.ch_space.specs.Keeps.{IsAccess, IsBody, accesses, iters_below, iters_below_step}
 use Rattle.ch_timed.specs.Conflict.{reads, reads_step}
 use Rattle.ch_timed.specs.Members.{Each, In}
+
+-- what is known of a nest
+
+pub nest_arrays : (nest : LoopNest) → IsTrue (is_nest nest) → IsTrue (arrays_fit nest.arrays)
+nest_arrays nest h =
+    (and_parts (arrays_fit nest.arrays) (all_conditions_fit nest.items most_conditions)
+    (and_parts (arrays_fit nest.arrays && all_conditions_fit nest.items most_conditions) (is_some (all_numbered nest.items 0) && items_fit nest.arrays nest.items []) h).0).0
+
+pub nest_numbered : (nest : LoopNest) → IsTrue (is_nest nest) → IsTrue (is_some (all_numbered nest.items 0))
+nest_numbered nest h =
+    (and_parts (is_some (all_numbered nest.items 0)) (items_fit nest.arrays nest.items [])
+    (and_parts (arrays_fit nest.arrays && all_conditions_fit nest.items most_conditions) (is_some (all_numbered nest.items 0) && items_fit nest.arrays nest.items []) h).1).0
+
+pub nest_fits : (nest : LoopNest) → IsTrue (is_nest nest) → IsTrue (items_fit nest.arrays nest.items [])
+nest_fits nest h =
+    (and_parts (is_some (all_numbered nest.items 0)) (items_fit nest.arrays nest.items [])
+    (and_parts (arrays_fit nest.arrays && all_conditions_fit nest.items most_conditions) (is_some (all_numbered nest.items 0) && items_fit nest.arrays nest.items []) h).1).1
 
 pub all_from_each : {X : Type 0} (P : X → Type 0) (xs : List X) → Each P xs → All P xs
 all_from_each P [] h = All-nil P
@@ -169,7 +188,7 @@ cells_some (e ∷ es) h =
     product_some : (a b : ℕ) → 1 ≤ a → 1 ≤ b → 1 ≤ a * b
     product_some a b l m = grind arith
 
-arrays_few : (arrays : List ArrayDecl) → IsTrue (list_all is_array arrays) → length arrays ≤ total arrays
+arrays_few : (arrays : List ArrayDecl) → IsTrue (list_all is_array arrays) → length arrays ≤ total (extents_of arrays)
 arrays_few [] h = omega arith
 arrays_few (d ∷ ds) h =
     let p = and_parts (is_array d) (list_all is_array ds) h in
@@ -180,7 +199,7 @@ arrays_few (d ∷ ds) h =
 
 pub few_arrays : (arrays : List ArrayDecl) → IsTrue (arrays_fit arrays) → length arrays ≤ most_cells
 few_arrays arrays h =
-    let p = and_parts (list_all is_array arrays) (nat_le (total arrays) most_cells) h in
+    let p = and_parts (list_all is_array arrays) (nat_le (total (extents_of arrays)) most_cells) h in
     let a = arrays_few arrays p.0 in
-    let b : total arrays ≤ most_cells = leb-true (total arrays) most_cells p.1 in
+    let b : total (extents_of arrays) ≤ most_cells = leb-true (total (extents_of arrays)) most_cells p.1 in
     omega arith

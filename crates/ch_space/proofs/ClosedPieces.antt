@@ -3,62 +3,25 @@ use Rattle.std.proofs.Common.{◌≡◌, refl, sym, ap, ap₂, ◌∙◌, subst,
 use Rattle.std.specs.List.{All, flat_map}
 use Rattle.std.specs.Ordering.{int_cmp}
 use Rattle.std.specs.Cmp.Lexicographic.{slice_cmp}
+use Rattle.std.proofs.lemmas.List.{map-append}
 use Rattle.std.proofs.lemmas.List.Elements.{All-cons, All-head, All-tail}
 use Rattle.ch_affine.specs.Affine.{IsAtMost}
 use Rattle.ch_timed.specs.Closed.{at_vector, closed_up, ranks}
-use Rattle.ch_timed.specs.Members.{In}
+use Rattle.ch_timed.specs.Members.{Each, In, Pairwise}
 use Rattle.ch_timed.specs.Timed.{in_order, is_well_formed}
 use Rattle.ch_timed.specs.Vectors.{places, values, woven}
 use Rattle.ch_timed.specs.declared.element.Element.{Element}
 use Rattle.ch_timed.proofs.ClosedUp.{closed_fine}
 use Rattle.ch_timed.proofs.Closing.{ranks_less}
-use Rattle.ch_timed.proofs.Orders.{retimed, map_in, in_map}
+use Rattle.ch_timed.proofs.Orders.{AllDiffer, Differ, retimed, map_in, in_map}
 use Rattle.ch_space.specs.declared.piece.Piece.{Piece}
 use Rattle.ch_space.specs.Pieces.{element_at, instances, elements, listed}
 use Rattle.ch_space.specs.Keeps.{IsWhole, places_of, AllLater, AreApart, IsSpace, IsBody, IsLimited, IsMoveBelow, IsReached, IsWrapped, accesses, most_pieces}
 use Rattle.ch_space.specs.Renumbered.{placed, all_placed, AreRanks}
-use Rattle.ch_space.proofs.Membership.{in_append, append_left, append_right}
-use Rattle.ch_space.proofs.PieceElements.{one_each, element_places, element_values, length_pos}
-use Rattle.ch_space.proofs.PieceNumbers.{numbered, in_listed, listed_in, all_in}
+use Rattle.ch_space.proofs.PieceElements.{element_places, element_values, length_pos}
+use Rattle.ch_space.proofs.PieceNumbers.{elements_differ, numbered, in_listed, listed_in, all_in}
 use Rattle.ch_space.proofs.EndsOf.{at_all}
 use Rattle.ch_space.proofs.NextPlaces.{ranks_long}
-
--- the change takes the elements of p to those of q
-record Moves (g : Element → Element) (p q : Piece) : Type 0 where
-  forth : (xs : List ℤ) → In xs (instances p) → In xs (instances q) × (g (element_at p xs) ≡ element_at q xs)
-  back : (xs : List ℤ) → In xs (instances q) → In xs (instances p) × (g (element_at p xs) ≡ element_at q xs)
-
-abbrev AllMove : (Element → Element) → List Piece → List Piece → Type 0
-AllMove g [] [] = Unit {0}
-AllMove g [] (q ∷ qs) = ⊥
-AllMove g (p ∷ ps) [] = ⊥
-AllMove g (p ∷ ps) (q ∷ qs) = Moves g p q × AllMove g ps qs
-
-there : (g : Element → Element) (ps qs : List Piece) → AllMove g ps qs → (e : Element) → In e (flat_map elements ps) → In (g e) (flat_map elements qs)
-there g [] [] m e i = absurd i
-there g [] (q ∷ qs) m e i = absurd m
-there g (p ∷ ps) [] m e i = absurd m
-there g (p ∷ ps) (q ∷ qs) m e i = elim (in_append (elements p) (flat_map elements ps) e i) as (λ _. In (g e) (flat_map elements (q ∷ qs))) [
-  | inl j ↦ let x = in_map (element_at p) (instances p) e j in
-      let y = m.0.forth x.0 x.1.0 in
-      append_left (elements q) (flat_map elements qs) (g e) (subst (λ z. In z (elements q)) (sym y.1 ∙ ap g x.1.1) (map_in (element_at q) (instances q) x.0 y.0))
-  | inr j ↦ append_right (elements q) (flat_map elements qs) (g e) (there g ps qs m.1 e j)
-]
-
-back : (g : Element → Element) (ps qs : List Piece) → AllMove g ps qs → (f : Element) → In f (flat_map elements qs) → (e : Element) × (In e (flat_map elements ps) × (g e ≡ f))
-back g [] [] m f i = absurd i
-back g [] (q ∷ qs) m f i = absurd m
-back g (p ∷ ps) [] m f i = absurd m
-back g (p ∷ ps) (q ∷ qs) m f i = elim (in_append (elements q) (flat_map elements qs) f i) as (λ _. (e : Element) × (In e (flat_map elements (p ∷ ps)) × (g e ≡ f))) [
-  | inl j ↦ let y = in_map (element_at q) (instances q) f j in
-      let x = m.0.back y.0 y.1.0 in
-      (element_at p y.0, (append_left (elements p) (flat_map elements ps) (element_at p y.0) (map_in (element_at p) (instances p) y.0 x.0), x.1 ∙ y.1.1))
-  | inr j ↦ let r = back g ps qs m.1 f j in (r.0, (append_right (elements p) (flat_map elements ps) r.0 r.1.0, r.1.1))
-]
-
-listed_moved : (g : Element → Element) (ps qs : List Piece) → AreApart ps → AreApart qs → AllMove g ps qs → listed qs ≡ in_order (map g (listed ps))
-listed_moved g ps qs a b m =
-    retimed (λ e. e.vector) (flat_map elements ps) (flat_map elements qs) g (one_each ps a) (one_each qs b) (there g ps qs m) (back g ps qs m)
 
 -- Pieces at their ranks.
 
@@ -92,18 +55,40 @@ ranked_element all p c xs w i e =
     ap₂ (λ ps vs. at_vector (element_at p xs) (woven (ranks all [] ps) vs)) (element_places p xs w i) (element_values p xs w i)
     ∙ ap (λ ps. at_vector (element_at p xs) (woven ps xs)) (sym e)
 
-ranked_moves : (all : List (List ℤ)) (ps : List Piece) (cs : List (List ℕ)) → AreRanks all ps cs → AreApart ps → AllMove (ranked all) ps (all_placed ps cs)
-ranked_moves all [] cs r a = tt
-ranked_moves all (p ∷ ps) [] r a = absurd r
-ranked_moves all (p ∷ ps) (c ∷ cs) r a =
-    (record { forth = λ xs i. (i, ranked_element all p c xs a.0 i r.0); back = λ xs i. (i, ranked_element all p c xs a.0 i r.0) }, ranked_moves all ps cs r.1 a.3)
+elements_ranked : (all : List (List ℤ)) (p : Piece) (c : List ℕ) (xss : List (List ℤ)) → ((xs : List ℤ) → In xs xss → ranked all (element_at p xs) ≡ element_at (placed p c) xs)
+    → map (element_at (placed p c)) xss ≡ map (ranked all) (map (element_at p) xss)
+elements_ranked all p c [] h = refl
+elements_ranked all p c (xs ∷ xss) h = ap₂ (λ e es. e ∷ es) (sym (h xs (inl refl))) (elements_ranked all p c xss (λ ys i. h ys (inr i)))
+
+all_ranked : (all : List (List ℤ)) (ps : List Piece) (cs : List (List ℕ)) → AreRanks all ps cs → AreApart ps → flat_map elements (all_placed ps cs) ≡ map (ranked all) (flat_map elements ps)
+all_ranked all [] cs r a = refl
+all_ranked all (p ∷ ps) [] r a = absurd r
+all_ranked all (p ∷ ps) (c ∷ cs) r a =
+    ap₂ (λ es fs. es ++ fs) (elements_ranked all p c (instances p) (λ xs i. ranked_element all p c xs a.0 i r.0)) (all_ranked all ps cs r.1 a.3)
+    ∙ sym (map-append (ranked all) (elements p) (flat_map elements ps))
+
+each_image : {X Y : Type 0} (P : Y → Type 0) (f : X → Y) (xs : List X) → Each P (map f xs) → Each (λ x. P (f x)) xs
+each_image P f [] h = tt
+each_image P f (x ∷ xs) h = (h.0, each_image P f xs h.1)
+
+images_apart : (g : Element → Element) (es : List Element) → AllDiffer (λ e. e.vector) (map g es) → Pairwise (λ e f. Differ (λ e. e.vector) (g e) (g f)) es
+images_apart g [] d = tt
+images_apart g (e ∷ es) d = (each_image _ g es d.0, images_apart g es d.1)
+
+-- elements that are moved one by one make the moved list
+listed_moved : (g : Element → Element) (ps qs : List Piece) → AreApart qs → flat_map elements qs ≡ map g (flat_map elements ps) → listed qs ≡ in_order (map g (listed ps))
+listed_moved g ps qs b m =
+    let old = flat_map elements ps in
+    let new = flat_map elements qs in
+    retimed (λ e. e.vector) old new g (elements_differ qs b) (images_apart g old (subst (AllDiffer (λ e. e.vector)) m (elements_differ qs b)))
+    (λ e i. subst (In (g e)) (sym m) (map_in g old e i)) (λ f i. in_map g old f (subst (In f) m i))
 
 pub places_in : (ps : List Piece) (q : Piece) → In q ps → In (places_of q) (map places_of ps)
 places_in ps q i = map_in places_of ps q i
 
 pub list_closed : (ps : List Piece) (cs : List (List ℕ)) → AreRanks (map places_of ps) ps cs → AreApart ps → listed (all_placed ps cs) ≡ closed_up (listed ps)
 list_closed ps cs r a =
-    listed_moved (ranked (map places_of ps)) ps (all_placed ps cs) a (apart_placed (map places_of ps) ps cs (places_in ps) r a) (ranked_moves (map places_of ps) ps cs r a)
+    listed_moved (ranked (map places_of ps)) ps (all_placed ps cs) (apart_placed (map places_of ps) ps cs (places_in ps) r a) (all_ranked (map places_of ps) ps cs r a)
     ∙ ap (λ all. in_order (map (ranked all) (listed ps))) (sym (numbered ps a))
 
 -- What doesn't depend on places stays.
@@ -132,14 +117,14 @@ old_member (p ∷ ps) (c ∷ cs) q (inr i) = let r = old_member ps cs q i in (r.
 
 -- a fact that does not depend on places holds of all elements
 elements_placed : (P : Element → Type 0) → ((p : Piece) (c : List ℕ) (xs : List ℤ) → P (element_at p xs) → P (element_at (placed p c) xs))
-    → (ps : List Piece) (cs : List (List ℕ)) → AreApart ps → All P (listed ps) → All P (listed (all_placed ps cs))
-elements_placed P h ps cs a n =
+    → (ps : List Piece) (cs : List (List ℕ)) → All P (listed ps) → All P (listed (all_placed ps cs))
+elements_placed P h ps cs n =
     all_in P (listed (all_placed ps cs))
     (λ e i.
     let s = in_listed (all_placed ps cs) e i in
     let o = old_member ps cs s.piece s.is_piece in
     let old : In s.instance (instances o.0) → P (element_at o.0 s.instance) =
-    λ j. at_all P (listed ps) (element_at o.0 s.instance) n (listed_in ps o.0 (element_at o.0 s.instance) a o.1.0 (map_in (element_at o.0) (instances o.0) s.instance j)) in
+    λ j. at_all P (listed ps) (element_at o.0 s.instance) n (listed_in ps o.0 (element_at o.0 s.instance) o.1.0 (map_in (element_at o.0) (instances o.0) s.instance j)) in
     subst P s.is
     (elim o.1.1.1 as (λ _. P (element_at s.piece s.instance)) [
       | inl f ↦ subst (λ z. P (element_at z s.instance)) (sym f) (h o.0 o.1.1.0 s.instance (old (subst (λ z. In s.instance (instances z)) f s.is_instance)))
@@ -167,9 +152,9 @@ space_closed arrays weight commands ps counts temps cs r s = record {
   bodies = all_by (λ p. IsBody arrays (length temps) (length p.origin) p.body) (λ p c h. h) ps cs s.bodies;
   agree = λ x y i j e. s.agree x y (subst (In x) (flat_placed (λ p. accesses p.body) (λ p c. refl) ps cs) i) (subst (In y) (flat_placed (λ p. accesses p.body) (λ p c. refl) ps cs) j) e;
   moves = all_by (λ p. IsMoveBelow (256 * commands) p.label) (λ p c h. h) ps cs s.moves;
-  near = elements_placed (λ e. All (IsAtMost (2 ^ 54)) e.identity.iters) (λ p c xs h. h) ps cs s.apart s.near;
-  wrapped = elements_placed (λ e. All (λ a. All (IsWrapped e.identity.iters) a.subs) (accesses e.body)) (λ p c xs h. h) ps cs s.apart s.wrapped;
-  reached = elements_placed (λ e. All (λ a. All (IsReached e.identity.iters) a.subs) (accesses e.body)) (λ p c xs h. h) ps cs s.apart s.reached;
+  near = elements_placed (λ e. All (IsAtMost (2 ^ 54)) e.identity.iters) (λ p c xs h. h) ps cs s.near;
+  wrapped = elements_placed (λ e. All (λ a. All (IsWrapped e.identity.iters) a.subs) (accesses e.body)) (λ p c xs h. h) ps cs s.wrapped;
+  reached = elements_placed (λ e. All (λ a. All (IsReached e.identity.iters) a.subs) (accesses e.body)) (λ p c xs h. h) ps cs s.reached;
 }
 
 -- Pieces placed from the last on.

@@ -185,10 +185,10 @@ first_identity p xs f = first_map (λ e. e.identity) (elements p) (element_at p 
 pub last_identity : (p : Piece) (xs : List ℤ) → last (instances p) ≡ Some xs → last (identities (elements p)) ≡ Some (element_at p xs).identity
 last_identity p xs f = last_map (λ e. e.identity) (elements p) (element_at p xs) (last_map (element_at p) (instances p) xs f)
 
-pub near_in : (ps : List Piece) (p : Piece) → AreApart ps → In p ps → All (λ e. All (IsAtMost (2 ^ 54)) e.identity.iters) (listed ps) → All (λ e. All (IsAtMost (2 ^ 54)) e.identity.iters) (elements p)
-near_in ps p a i n =
+pub near_in : (ps : List Piece) (p : Piece) → In p ps → All (λ e. All (IsAtMost (2 ^ 54)) e.identity.iters) (listed ps) → All (λ e. All (IsAtMost (2 ^ 54)) e.identity.iters) (elements p)
+near_in ps p i n =
     all_in (λ e. All (IsAtMost (2 ^ 54)) e.identity.iters) (elements p)
-    (λ e j. at_all (λ e. All (IsAtMost (2 ^ 54)) e.identity.iters) (listed ps) e n (listed_in ps p e a i j))
+    (λ e j. at_all (λ e. All (IsAtMost (2 ^ 54)) e.identity.iters) (listed ps) e n (listed_in ps p e i j))
 
 pub few_levels : (p : Piece) (q : List ℤ) → IsWhole p → length q ≡ length p.system.boxes → p.levels ≤ length q
 few_levels p q w l = let b = w.boxes in omega arith

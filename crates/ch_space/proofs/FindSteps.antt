@@ -1,112 +1,137 @@
 -- The pieces of a nest, found item by item.
-use Rattle.std.proofs.Common.{◌≡◌, refl, sym, ap, ap₂, ◌∙◌, subst, ℕ, zero, suc, ◌+◌, ◌^◌, ◌<◌, ◌≤◌, Bool, true, false, cond, ◌&&◌, nat_lt, List, [], ◌∷◌, ◌++◌, length, map, take, get_or, arith, append_assoc, append-nil}
+use Rattle.std.proofs.Common.{◌≡◌, refl, sym, ap, ap₂, ◌∙◌, subst, ℕ, zero, suc, ◌+◌, ◌^◌, ◌<◌, ◌≤◌, Bool, true, false, cond, ◌&&◌, nat_le, nat_lt, Result, Ok, Err, Some, List, [], ◌∷◌, ◌++◌, length, map, take, get_or, arith, append_assoc, append-nil, length-append}
 use Rattle.std.specs.Bool.{IsTrue}
-use Rattle.std.specs.Option.{is_some}
 use Rattle.std.specs.List.{sum}
-use Rattle.std.proofs.lemmas.Bool.{and_parts, lt-ltb}
+use Rattle.std.specs.Result.{IfOk}
+use Rattle.std.proofs.lemmas.Bool.{and_parts, leb-true, lt-ltb}
 use Rattle.std.proofs.lemmas.Bool.Decides.{nat_tests}
-use Rattle.std.proofs.lemmas.List.{map-append}
+use Rattle.std.proofs.lemmas.List.{length-map, map-append, take_all, take_more}
 use Rattle.std.proofs.lemmas.List.Elements.{filter-append}
 use Rattle.ch_affine.specs.Form.{Form}
 use Rattle.ch_affine.specs.declared.system.Range.{Range}
 use Rattle.ch_nest.specs.declared.nest.ArrayDecl.{ArrayDecl}
 use Rattle.ch_nest.specs.declared.nest.Body.{Body}
 use Rattle.ch_nest.specs.declared.nest.Item.{Item}
-use Rattle.ch_nest.specs.declared.nest.Item.TheVariants.{Loop, Assign, rolls-Loop, rolls-Assign}
+use Rattle.ch_nest.specs.declared.nest.Item.TheVariants.{Loop, If, Assign}
 use Rattle.ch_nest.specs.declared.nest.Item.TheOpen.{Item-F}
-use Rattle.ch_nest.specs.declared.nest.Item.TheFolds.{fold-roll-Item}
+use Rattle.ch_nest.specs.Arrays.{extents_of}
 use Rattle.ch_nest.specs.Limits.{most_cells, most_work}
 use Rattle.ch_nest.specs.LoopNest.{LoopNest}
-use Rattle.ch_nest.specs.Shape.{all_numbered, arrays_fit, box_of, head_fits, is_nest, is_small, item_fits, item_fits_step, items_fit}
-use Rattle.ch_nest.specs.Sound.{items_work}
-use Rattle.ch_nest.proofs.Fits.{loop_fits_is}
+use Rattle.ch_nest.specs.Shape.{all_numbered, box_of, head_fits, is_nest, is_small, item_fits, item_fits_step, items_fit, numbered}
+use Rattle.ch_nest.specs.Sound.{is_sound, items_inside, items_work}
+use Rattle.ch_nest.proofs.Fits.{if_fit, loop_fits_is}
 use Rattle.ch_nest.proofs.Turns.{fit_at}
+use Rattle.ch_space.specs.declared.level.Around.{Around}
+use Rattle.ch_space.specs.declared.level.Around.TheVariants.{Inside, Where}
 use Rattle.ch_space.specs.declared.level.Level.{Level}
 use Rattle.ch_space.specs.declared.nest_pieces.Found.{Found}
 use Rattle.ch_space.specs.declared.piece.Piece.{Piece}
 use Rattle.ch_space.specs.Built.{boxes_from, piece_of}
-use Rattle.ch_space.specs.Fitting.{Adds, AreBelow, IsBelow, are_short, capped, is_short}
+use Rattle.ch_space.specs.Fitting.{Adds, AreBelow, IsBelow, Places, capped}
 use Rattle.ch_space.specs.Keeps.{most_instances, IsSpace}
 use Rattle.ch_space.specs.Listed.{Listed}
 use Rattle.ch_space.specs.Pieces.{listed}
-use Rattle.ch_space.specs.Statements.{Statement, Finding, at_numbers, executed, instances_of, statements, statements_of, statements_step}
+use Rattle.ch_space.specs.Statements.{Statement, at_numbers, executed, findings, findings_of, instances_of, statements, where_met}
 use Rattle.ch_space.proofs.Assembled.{assembled, counts_of, listed_is, pieces_of, sum_filter}
-use Rattle.ch_space.proofs.Bodies.{few_arrays}
-use Rattle.ch_space.proofs.Shapes.{boxes_last, levels_last}
-use Rattle.ch_space.proofs.Short.{few_items, item_short, loop_short, nest_short}
+use Rattle.ch_space.proofs.Bodies.{few_arrays, nest_arrays, nest_fits, nest_numbered}
+use Rattle.ch_space.proofs.FindingCases.{findings_assign, findings_if, findings_loop, numbers_append, numbers_met}
+use Rattle.ch_space.proofs.Shapes.{boxes_last, boxes_where, levels_last, levels_where}
+use Rattle.ch_space.proofs.Short.{numbered_at, numbered_if, numbered_loop, some_number}
 use Rattle.ch_space.proofs.Sums.{instances_few, sum_first}
 use Rattle.ch_timed.specs.Start.{start}
 
-pub item_below : (items : List Item) (levels : List Level) (item : Item) (k : ℕ) → k < length items → item ≡ get_or items k item → AreBelow items levels → IsBelow item levels
-item_below items levels item k l is b = record {
-  arrays = b.arrays;
-  fit = b.fit;
-  item_fits = subst (λ i. IsTrue (item_fits b.arrays i (boxes_from [] levels))) (sym is) (fit_at b.arrays items (boxes_from [] levels) k item l b.items_fit);
-  short = subst (λ i. IsTrue (is_short i)) (sym is) (item_short items k item l b.short);
-}
-
-pub loop_below : (item : Item) (lows highs : List Form) (items : List Item) (levels : List Level) → item ≡ Loop lows highs items → IsBelow item levels
-    → AreBelow items (levels ++ record { lows = lows; highs = highs } ∷ [])
-loop_below item lows highs items levels is b =
-    let boxes : List Range = boxes_from [] levels in
-    let box : Range = box_of boxes lows highs in
-    let l : Level = record { lows = lows; highs = highs } in
-    let f : IsTrue (item_fits b.arrays (Loop lows highs items) boxes) = subst (λ i. IsTrue (item_fits b.arrays i boxes)) is b.item_fits in
-    let g : IsTrue (item_fits_step b.arrays (Item-F.Loop lows highs (map (item_fits b.arrays) items)) boxes) = rw (loop_fits_is b.arrays lows highs items boxes) at f in
-    let top : IsTrue (head_fits (length boxes) lows highs && nat_lt 0 (length (map (item_fits b.arrays) items))) = (and_parts _ _ g).0 in
-    let below : IsTrue (is_small box && items_fit b.arrays items (boxes ++ box ∷ [])) = (and_parts _ _ g).1 in
+-- one item of some
+pub item_below : (items : List Item) (around : List Around) (first place k : ℕ) (item d : Item) → k < length items → item ≡ get_or items k d → place ≡ first + length (findings (take k items))
+    → AreBelow items around first → IsBelow item around place
+item_below items around first place k item d l is e b =
+    let r = numbered_at b.arrays items (boxes_from [] around) k d b.from b.to l b.items_fit b.numbered b.most in
+    let x = r.before in
+    let y = b.few in
     record {
       arrays = b.arrays;
-      fit = levels_last [] levels l b.fit (and_parts _ _ top).0 (and_parts (is_small box) (items_fit b.arrays items (boxes ++ box ∷ [])) below).0;
-      items_fit = subst (λ z. IsTrue (items_fit b.arrays items z)) (sym (boxes_last [] levels l)) (and_parts (is_small box) (items_fit b.arrays items (boxes ++ box ∷ [])) below).1;
-      short = loop_short lows highs items (subst (λ i. IsTrue (is_short i)) is b.short);
+      fit = b.fit;
+      item_fits = subst (λ i. IsTrue (item_fits b.arrays i (boxes_from [] around))) (sym is) (fit_at b.arrays items (boxes_from [] around) k d l b.items_fit);
+      from = r.here;
+      to = r.next;
+      numbered = subst (λ i. numbered i r.here ≡ Some r.next) (sym is) r.numbered;
+      few = omega arith;
+      most = r.most;
     }
 
-pub inside_below : (item : Item) (lows highs : List Form) (items below : List Item) (levels inside : List Level) (ls hs : List Form) → item ≡ Loop lows highs items → IsBelow item levels
-    → below ≡ items → ls ≡ lows → hs ≡ highs → inside ≡ levels ++ record { lows = ls; highs = hs } ∷ [] → AreBelow below inside
-inside_below item lows highs items below levels inside ls hs is b ei el eh e =
-    subst (λ z. AreBelow z inside) (sym ei) (subst (AreBelow items) (sym (e ∙ ap₂ (λ x y. levels ++ record { lows = x; highs = y } ∷ []) el eh))
-    (loop_below item lows highs items levels is b))
+pub loop_below : (item : Item) (lows highs : List Form) (step : ℕ) (items below : List Item) (around inside : List Around) (place : ℕ) (ls hs : List Form) → item ≡ Loop lows highs step items
+    → IsBelow item around place → below ≡ items → ls ≡ lows → hs ≡ highs → inside ≡ around ++ Inside (record { lows = ls; highs = hs; step = step }) ∷ [] → AreBelow below inside 0
+loop_below item lows highs step items below around inside place ls hs is b ei el eh e =
+    let boxes : List Range = boxes_from [] around in
+    let box : Range = box_of boxes lows highs in
+    let l : Level = record { lows = lows; highs = highs; step = step } in
+    let f : IsTrue (item_fits b.arrays (Loop lows highs step items) boxes) = subst (λ i. IsTrue (item_fits b.arrays i boxes)) is b.item_fits in
+    let g : IsTrue (item_fits_step b.arrays (Item-F.Loop lows highs step (map (item_fits b.arrays) items)) boxes) = subst (λ t. IsTrue t) (loop_fits_is b.arrays lows highs step items boxes) f in
+    let top : IsTrue (head_fits (length boxes) lows highs step && nat_lt 0 (length (map (item_fits b.arrays) items))) = (and_parts _ _ g).0 in
+    let low : IsTrue (is_small box && items_fit b.arrays items (boxes ++ box ∷ [])) = (and_parts _ _ g).1 in
+    let there : AreBelow items (around ++ Inside l ∷ []) 0 = record {
+      arrays = b.arrays;
+      fit = levels_last [] around l b.fit (and_parts _ _ top).0 (and_parts (is_small box) (items_fit b.arrays items (boxes ++ box ∷ [])) low).0;
+      items_fit = subst (λ z. IsTrue (items_fit b.arrays items z)) (sym (boxes_last [] around l)) (and_parts (is_small box) (items_fit b.arrays items (boxes ++ box ∷ [])) low).1;
+      from = b.from;
+      to = b.to;
+      numbered = sym (numbered_loop lows highs step items b.from) ∙ subst (λ i. numbered i b.from ≡ Some b.to) is b.numbered;
+      few = omega arith;
+      most = b.most;
+    } in
+    subst (λ z. AreBelow z inside 0) (sym ei) (subst (λ z. AreBelow items z 0) (sym (e ∙ ap₂ (λ x y. around ++ Inside (record { lows = x; highs = y; step = step }) ∷ []) el eh)) there)
+
+pub if_below : (item : Item) (row : Form) (items below : List Item) (around inside : List Around) (place : ℕ) → item ≡ If row items → IsBelow item around place → below ≡ items
+    → inside ≡ around ++ Where row ∷ [] → AreBelow below inside place
+if_below item row items below around inside place is b ei e =
+    let f = if_fit b.arrays item row items (boxes_from [] around) is b.item_fits in
+    let there : AreBelow items (around ++ Where row ∷ []) place = record {
+      arrays = b.arrays;
+      fit = levels_where [] around row b.fit f.row_fits;
+      items_fit = subst (λ z. IsTrue (items_fit b.arrays items z)) (sym (boxes_where [] around row)) f.inner;
+      from = b.from;
+      to = b.to;
+      numbered = sym (numbered_if row items b.from) ∙ subst (λ i. numbered i b.from ≡ Some b.to) is b.numbered;
+      few = b.few;
+      most = b.most;
+    } in
+    subst (λ z. AreBelow z inside place) (sym ei) (subst (λ z. AreBelow items z place) (sym e) there)
+
+-- the place after one is a number of 32 bits
+pub place_fits : (item : Item) (around : List Around) (place : ℕ) → IsBelow item around place → place + 1 < 2 ^ 32
+place_fits item around place b = let x = b.few in let y = b.most in omega arith
 
 -- one layer of the statements
 
-loop_statements : (lows highs : List Form) (items : List Item) (levels : List Level) (places : List ℕ)
-    → statements_of (Loop lows highs items) levels places ≡ at_numbers 0 (map statements_of items) (levels ++ record { lows = lows; highs = highs } ∷ []) places
-loop_statements lows highs items levels places =
-    ap (λ f. f levels places) (ap statements_of (sym (rolls-Loop lows highs items)) ∙ fold-roll-Item Finding statements_step _)
+one_place : (ss : List Statement) (old new : Found) → Adds ss old new → Adds (ss ++ []) old new
+one_place ss old new a = subst (λ t. Adds t old new) (sym (append-nil ss)) a
 
-assign_statements : (label : ℕ) (body : Body) (levels : List Level) (places : List ℕ)
-    → statements_of (Assign label body) levels places ≡ record { label = label; body = body; levels = levels; places = places } ∷ []
-assign_statements label body levels places =
-    ap (λ f. f levels places) (ap statements_of (sym (rolls-Assign label body)) ∙ fold-roll-Item Finding statements_step _)
+pub places_assign : (item : Item) (label : ℕ) (body : Body) (around : List Around) (places here : List ℕ) (place : ℕ) (old new : Found) → item ≡ Assign label body → here ≡ places ++ place ∷ []
+    → Adds (record { label = label; body = body; around = around; places = here } ∷ []) old new → Places (findings_of item) around places place (place + 1) old new
+places_assign item label body around places here place old new is e a =
+    subst (λ fs. Places fs around places place (place + 1) old new) (sym (ap findings_of is ∙ findings_assign label body))
+    (record { after = refl; adds = subst (λ p. Adds (record { label = label; body = body; around = around; places = p } ∷ []) old new) e a })
 
-pub adds_assign : (item : Item) (label : ℕ) (body : Body) (levels : List Level) (places : List ℕ) (old new : Found) → item ≡ Assign label body
-    → Adds (record { label = label; body = body; levels = levels; places = places } ∷ []) old new → Adds (statements_of item levels places) old new
-adds_assign item label body levels places old new is a =
-    subst (λ ss. Adds ss old new) (sym (ap (λ i. statements_of i levels places) is ∙ assign_statements label body levels places)) a
+pub places_loop : (item : Item) (lows highs : List Form) (step : ℕ) (items below : List Item) (around inside : List Around) (ls hs : List Form) (places here : List ℕ) (place next : ℕ) (old new : Found)
+    → item ≡ Loop lows highs step items → below ≡ items → ls ≡ lows → hs ≡ highs → inside ≡ around ++ Inside (record { lows = ls; highs = hs; step = step }) ∷ [] → here ≡ places ++ place ∷ []
+    → Places (findings below) inside here 0 next old new → Places (findings_of item) around places place (place + 1) old new
+places_loop item lows highs step items below around inside ls hs places here place next old new is ei el eh e eh' a =
+    let l : Level = record { lows = lows; highs = highs; step = step } in
+    let inner : List Around = around ++ Inside l ∷ [] in
+    let same : at_numbers 0 (findings below) inside here ≡ at_numbers 0 (findings items) inner (places ++ place ∷ []) =
+    ap (λ z. at_numbers 0 (findings z) inside here) ei ∙ ap₂ (λ i p. at_numbers 0 (findings items) i p) (e ∙ ap₂ (λ x y. around ++ Inside (record { lows = x; highs = y; step = step }) ∷ []) el eh) eh' in
+    subst (λ fs. Places fs around places place (place + 1) old new) (sym (ap findings_of is ∙ findings_loop lows highs step items))
+    (record { after = refl; adds = one_place (at_numbers 0 (findings items) inner (places ++ place ∷ [])) old new (subst (λ ss. Adds ss old new) same a.adds) })
 
-pub adds_loop : (item : Item) (lows highs : List Form) (items below : List Item) (levels inside : List Level) (ls hs : List Form) (places : List ℕ) (old new : Found) → item ≡ Loop lows highs items
-    → below ≡ items → ls ≡ lows → hs ≡ highs → inside ≡ levels ++ record { lows = ls; highs = hs } ∷ []
-    → Adds (at_numbers 0 (map statements_of below) inside places) old new → Adds (statements_of item levels places) old new
-adds_loop item lows highs items below levels inside ls hs places old new is ei el eh e a =
-    let same : at_numbers 0 (map statements_of below) inside places ≡ at_numbers 0 (map statements_of items) (levels ++ record { lows = lows; highs = highs } ∷ []) places =
-    ap₂ (λ z i. at_numbers 0 (map statements_of z) i places) ei (e ∙ ap₂ (λ x y. levels ++ record { lows = x; highs = y } ∷ []) el eh) in
-    subst (λ ss. Adds ss old new) (same ∙ sym (ap (λ i. statements_of i levels places) is ∙ loop_statements lows highs items levels places)) a
-
-numbers_more : (n k : ℕ) (items : List Item) (d : Item) (levels : List Level) (places : List ℕ) → k < length items
-    → at_numbers n (map statements_of (take (k + 1) items)) levels places
-    ≡ at_numbers n (map statements_of (take k items)) levels places ++ statements_of (get_or items k d) levels (places ++ (n + k) ∷ [])
-numbers_more n k [] d levels places l = absurd (omega arith)
-numbers_more n zero (i ∷ is) d levels places l =
-    let e : n + 0 ≡ n = omega arith in
-    append-nil (statements_of i levels (places ++ n ∷ [])) ∙ ap (λ m. statements_of i levels (places ++ m ∷ [])) (sym e)
-numbers_more n (suc k) (i ∷ is) d levels places l =
-    let e : suc n + k ≡ n + suc k = omega arith in
-    let f : take (suc k + 1) (i ∷ is) ≡ i ∷ take (k + 1) is = (let g : suc k + 1 ≡ suc (k + 1) = omega arith in ap (λ m. take m (i ∷ is)) g) in
-    ap (λ z. at_numbers n (map statements_of z) levels places) f
-    ∙ ap (λ t. statements_of i levels (places ++ n ∷ []) ++ t) (numbers_more (suc n) k is d levels places (omega arith))
-    ∙ sym (append_assoc (statements_of i levels (places ++ n ∷ [])) (at_numbers (suc n) (map statements_of (take k is)) levels places) (statements_of (get_or is k d) levels (places ++ (suc n + k) ∷ [])))
-    ∙ ap (λ m. (statements_of i levels (places ++ n ∷ []) ++ at_numbers (suc n) (map statements_of (take k is)) levels places) ++ statements_of (get_or is k d) levels (places ++ m ∷ [])) e
+pub places_if : (item : Item) (row : Form) (items below : List Item) (around inside : List Around) (places : List ℕ) (place next : ℕ) (old new : Found)
+    → item ≡ If row items → below ≡ items → inside ≡ around ++ Where row ∷ []
+    → Places (findings below) inside places place next old new → Places (findings_of item) around places place next old new
+places_if item row items below around inside places place next old new is ei e a =
+    let same : at_numbers place (findings below) inside places ≡ at_numbers place (map (where_met row) (findings items)) around places =
+    ap₂ (λ z i. at_numbers place (findings z) i places) ei e ∙ sym (numbers_met row place (findings items) around places) in
+    let many : length (findings below) ≡ length (map (where_met row) (findings items)) = ap (λ z. length (findings z)) ei ∙ sym (length-map (findings items) (where_met row)) in
+    let n = a.after in
+    subst (λ fs. Places fs around places place next old new) (sym (ap findings_of is ∙ findings_if row items))
+    (record { after = omega arith; adds = subst (λ ss. Adds ss old new) same a.adds })
 
 executed_both : (ss ts : List Statement) → executed (ss ++ ts) ≡ executed ss ++ executed ts
 executed_both ss ts = filter-append (λ s. nat_lt 0 (instances_of s)) ss ts
@@ -120,23 +145,39 @@ adds_both ss ts old now new a b = record {
       ∙ ap (λ t. old.counts ++ t) (sym (ap (map (λ s. capped (instances_of s))) (executed_both ss ts) ∙ map-append (λ s. capped (instances_of s)) (executed ss) (executed ts)));
 }
 
-pub adds_more : (items : List Item) (item : Item) (levels : List Level) (places here : List ℕ) (k place : ℕ) (old now new : Found) → k < length items → item ≡ get_or items k item
-    → place ≡ k → here ≡ places ++ place ∷ []
-    → Adds (at_numbers 0 (map statements_of (take k items)) levels places) old now → Adds (statements_of item levels here) now new
-    → Adds (at_numbers 0 (map statements_of (take (k + 1) items)) levels places) old new
-adds_more items item levels places here k place old now new l is ep eh a b =
-    let e : place ≡ 0 + k = omega arith in
-    let same : statements_of item levels here ≡ statements_of (get_or items k item) levels (places ++ (0 + k) ∷ []) =
-    ap₂ (λ i p. statements_of i levels p) is (eh ∙ ap (λ m. places ++ m ∷ []) e) in
-    subst (λ ss. Adds ss old new) (sym (numbers_more 0 k items item levels places l))
-    (adds_both (at_numbers 0 (map statements_of (take k items)) levels places) (statements_of (get_or items k item) levels (places ++ (0 + k) ∷ [])) old now new a
-    (subst (λ ss. Adds ss now new) same b))
-
-pub places_fit : (items : List Item) (levels : List Level) (k : ℕ) → k < length items → AreBelow items levels → k < 2 ^ 32
-places_fit items levels k l b = let f = few_items items b.short in omega arith
-
 pub adds_none : (old : Found) → Adds [] old old
 adds_none old = record { pieces = sym (append-nil old.pieces); counts = sym (append-nil old.counts) }
+
+findings_more : (items : List Item) (k : ℕ) (d : Item) → k < length items → findings (take (k + 1) items) ≡ findings (take k items) ++ findings_of (get_or items k d)
+findings_more items k d l = ap findings (take_more items k d l) ∙ both (take k items) (get_or items k d)
+  where
+    both : (is : List Item) (i : Item) → findings (is ++ i ∷ []) ≡ findings is ++ findings_of i
+    both [] i = append-nil (findings_of i)
+    both (j ∷ js) i = ap (λ t. findings_of j ++ t) (both js i) ∙ sym (append_assoc (findings_of j) (findings js) (findings_of i))
+
+pub places_none : (around : List Around) (places : List ℕ) (first : ℕ) (old : Found) → Places [] around places first first old old
+places_none around places first old = record { after = omega arith; adds = adds_none old }
+
+pub places_more : (items : List Item) (item d : Item) (around : List Around) (places : List ℕ) (k first place next : ℕ) (old now new : Found) → k < length items → item ≡ get_or items k d
+    → Places (findings (take k items)) around places first place old now → Places (findings_of item) around places place next now new
+    → Places (findings (take (k + 1) items)) around places first next old new
+places_more items item d around places k first place next old now new l is a b =
+    let fs = findings (take k items) in
+    let gs = findings_of item in
+    let same : fs ++ gs ≡ findings (take (k + 1) items) = ap (λ i. fs ++ findings_of i) is ∙ sym (findings_more items k d l) in
+    let x = a.after in
+    let y = b.after in
+    let n = length-append fs gs in
+    subst (λ hs. Places hs around places first next old new) same
+    (record {
+      after = omega arith;
+      adds = subst (λ ss. Adds ss old new) (ap (λ m. at_numbers first fs around places ++ at_numbers m gs around places) x ∙ sym (numbers_append first fs gs around places))
+          (adds_both (at_numbers first fs around places) (at_numbers place gs around places) old now new a.adds b.adds);
+    })
+
+pub places_done : (items : List Item) (around : List Around) (places : List ℕ) (k first place : ℕ) (old new : Found) → length items ≤ k
+    → Places (findings (take k items)) around places first place old new → Places (findings items) around places first place old new
+places_done items around places k first place old new l a = subst (λ is. Places (findings is) around places first place old new) (take_all k items l) a
 
 -- one statement
 
@@ -180,10 +221,15 @@ pub record Complete (nest : LoopNest) (found : Found) : Type 0 where
   pub pieces : found.pieces ≡ pieces_of nest
   pub counts : found.counts ≡ counts_of nest
 
-pub all_found : (nest : LoopNest) (items : List Item) (old new : Found) → items_work nest.items [] ≤ most_work → items ≡ nest.items → old.pieces ≡ [] → old.counts ≡ []
-    → Adds (at_numbers 0 (map statements_of items) [] []) old new → Complete nest new
-all_found nest items old new few is ep ec a =
-    let b : Adds (statements nest.items) old new = subst (λ z. Adds (at_numbers 0 (map statements_of z) [] []) old new) is a in
+sound_work : (nest : LoopNest) → IsTrue (is_sound nest) → items_work nest.items [] ≤ most_work
+sound_work nest sound =
+    leb-true (items_work nest.items []) most_work (and_parts (items_inside (extents_of nest.arrays) nest.items []) (nat_le (items_work nest.items []) most_work) sound).1
+
+pub all_found : (nest : LoopNest) (items : List Item) (next : ℕ) (old new : Found) → IsTrue (is_sound nest) → items ≡ nest.items → old.pieces ≡ [] → old.counts ≡ []
+    → Places (findings items) [] [] 0 next old new → Complete nest new
+all_found nest items next old new sound is ep ec a =
+    let few = sound_work nest sound in
+    let b : Adds (statements nest.items) old new = subst (λ z. Adds (at_numbers 0 (findings z) [] []) old new) is a.adds in
     let n = instances_few nest.items in
     let m = sum_filter (λ s. nat_lt 0 (instances_of s)) (statements nest.items) in
     record {
@@ -192,23 +238,20 @@ all_found nest items old new few is ep ec a =
           ∙ capped_same most_work (counts_of nest) (omega arith) (omega arith);
     }
 
-pub top_below : (nest : LoopNest) (items : List Item) → IsTrue (is_nest nest) → items ≡ nest.items → AreBelow items []
-top_below nest items known is = record {
-  arrays = nest.arrays;
-  fit = tt;
-  items_fit = subst (λ z. IsTrue (items_fit nest.arrays z [])) (sym is)
-      (and_parts (is_some (all_numbered nest.items 0)) (items_fit nest.arrays nest.items []) (and_parts (arrays_fit nest.arrays) (is_some (all_numbered nest.items 0) && items_fit nest.arrays nest.items []) known).1).1;
-  short = subst (λ z. IsTrue (are_short z)) (sym is) (nest_short nest known);
-}
+pub top_below : (nest : LoopNest) (items : List Item) → IsTrue (is_nest nest) → items ≡ nest.items → AreBelow items [] 0
+top_below nest items known is =
+    let m = some_number (all_numbered nest.items 0) (nest_numbered nest known) in
+    subst (λ z. AreBelow z [] 0) (sym is)
+    (record { arrays = nest.arrays; fit = tt; items_fit = nest_fits nest known; from = 0; to = m.0; numbered = m.1; few = omega arith; most = omega arith })
 
 -- the space that is made
 
 pub arrays_counted : (nest : LoopNest) (arrays : List ArrayDecl) → IsTrue (is_nest nest) → arrays ≡ nest.arrays → length arrays ≤ most_cells
 arrays_counted nest arrays known is =
     subst (λ z. length z ≤ most_cells) (sym is)
-    (few_arrays nest.arrays (and_parts (arrays_fit nest.arrays) (is_some (all_numbered nest.items 0) && items_fit nest.arrays nest.items []) known).0)
+    (few_arrays nest.arrays (nest_arrays nest known))
 
-pub space_kept : (nest : LoopNest) (n : ℕ) (found : Found) (temps : List (List ℕ)) → IsTrue (is_nest nest) → items_work nest.items [] ≤ most_work → n ≡ length nest.arrays
+pub space_kept : (nest : LoopNest) (n : ℕ) (found : Found) (temps : List (List ℕ)) → IsTrue (is_nest nest) → IsTrue (is_sound nest) → n ≡ length nest.arrays
     → Complete nest found → temps ≡ [] → IsSpace n found.pieces found.counts temps 1 0
 space_kept nest n found temps known few en c et =
     subst (λ m. IsSpace m found.pieces found.counts temps 1 0) (sym en)
@@ -222,3 +265,7 @@ pub space_is : (nest : LoopNest) (n : ℕ) (found : Found) (temps : List (List �
 space_is nest n found temps known en c et =
     let e : listed found.pieces ≡ start nest = ap listed c.pieces ∙ listed_is nest known in
     λ i. record { list = e i; arrays = en i; temps = et i; weight = 1; commands = 0 }
+
+pub ok_places : {E : Type 0} (r : Result ℕ E) (P Q : ℕ → Type 0) → ((n : ℕ) → P n → Q n) → IfOk r P → IfOk r Q
+ok_places (Ok n) P Q f h = f n h
+ok_places (Err e) P Q f h = h

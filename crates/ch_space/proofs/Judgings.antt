@@ -1,6 +1,6 @@
 -- The walk that judges a nest, one step on, and what its refusal says of the nest.
-use Rattle.std.proofs.Common.{◌≡◌, refl, sym, ap, ap₂, ◌∙◌, subst, ℕ, zero, suc, ◌+◌, ◌<◌, ◌≤◌, ℤ, pos, ◌+ℤ◌, Bool, true, false, ◌&&◌, nat_le, nat_lt, if◌then◌else◌, Option, Some, None, Result, Ok, Err, List, [], ◌∷◌, ◌++◌, length, map, drop, get_or, add-one, inl, inr, arith}
-use Rattle.std.specs.List.{list_all}
+use Rattle.std.proofs.Common.{◌≡◌, refl, sym, ap, ap₂, ◌∙◌, subst, ℕ, zero, suc, ◌+◌, ◌<◌, ◌≤◌, ℤ, pos, ◌+ℤ◌, ◌<ℤ◌, ◌≤ℤ◌, append-nil, Bool, true, false, ◌&&◌, nat_le, nat_lt, if◌then◌else◌, Option, Some, None, Result, Ok, Err, List, [], ◌∷◌, ◌++◌, length, map, drop, get_or, add-one, inl, inr, arith}
+use Rattle.std.specs.List.{flat_map, list_all}
 use Rattle.std.specs.Result.{IsErrAnd}
 use Rattle.std.proofs.lemmas.Bool.{cases_lt}
 use Rattle.std.proofs.lemmas.Bool.Decides.{nat_tests}
@@ -14,29 +14,32 @@ use Rattle.ch_nest.specs.declared.nest.Expr.TheOpen.{Expr-F}
 use Rattle.ch_nest.specs.declared.nest.Expr.TheFolds.{fold-roll-Expr, ind-Expr}
 use Rattle.ch_nest.specs.declared.nest.Item.{Item}
 use Rattle.ch_nest.specs.declared.nest.Item.TheOpen.{Item-F}
-use Rattle.ch_nest.specs.declared.nest.Item.TheVariants.{Loop, Assign, rolls-Loop, rolls-Assign}
+use Rattle.ch_nest.specs.declared.nest.Item.TheVariants.{Loop, If, Assign, rolls-Loop, rolls-If, rolls-Assign}
 use Rattle.ch_nest.specs.declared.nest.Item.TheFolds.{fold-roll-Item}
 use Rattle.ch_nest.specs.Limits.{most_work}
 use Rattle.ch_nest.specs.LoopNest.{LoopNest}
-use Rattle.ch_nest.specs.Run.{count, low_of, high_of}
-use Rattle.ch_nest.specs.Sound.{Measure, access_inside, each_turn, expr_inside, expr_inside_step, is_sound, item_inside, item_work, items_inside, items_work, turns_work, work_step}
-use Rattle.ch_nest.proofs.Runs.{inside_assign_is, inside_loop_is}
+use Rattle.ch_nest.specs.Run.{is_met, loop_values, values_at, low_of, high_of}
+use Rattle.ch_nest.specs.Sound.{Measure, access_inside, expr_inside, expr_inside_step, is_sound, item_inside, item_work, items_inside, items_work, turns_work, work_step}
+use Rattle.ch_nest.proofs.Runs.{inside_assign_is, inside_if_is, inside_loop_is}
+use Rattle.ch_nest.proofs.Values.{values_next, values_none}
+use Rattle.ch_nest.specs.Arrays.{extents_of}
 use Rattle.ch_space.specs.declared.accesses.Leaving.{Leaving}
 use Rattle.ch_space.specs.declared.error.SpaceError.{SpaceError}
 use Rattle.ch_space.specs.declared.error.SpaceError.TheVariants.{TooMany, OutOfRange, Memory}
 use Rattle.ch_space.specs.declared.judge.Walk.{Walk}
 use Rattle.ch_space.specs.Judged.{accesses_before, first_leaving, first_of, judgement, leaving, leaving_if, or_else, out_of_range, text_accesses}
 use Rattle.ch_space.specs.Judged.{IsRefusal}
-use Rattle.ch_space.specs.JudgingWalk.{Search, Ends, GoesOn, Walks, first_turn, item_refusal, items_refusal, refusal_step}
+use Rattle.ch_space.specs.JudgingWalk.{Search, Ends, GoesOn, Walks, first_value, item_refusal, items_refusal, refusal_step}
 use Rattle.ch_timed.specs.Conflict.{cell_of, reads, reads_step}
 use Rattle.ch_timed.specs.declared.element.Cell.{Cell}
 use Rattle.ch_timed.specs.declared.element.Element.{Element}
 use Rattle.ch_timed.specs.declared.element.Identity.{Identity}
 use Rattle.ch_timed.specs.declared.element.Label.TheVariants.{Stmt}
 use Rattle.ch_timed.specs.Members.{Each}
-use Rattle.ch_timed.specs.Start.{at_places, start, start_item, turns_listed}
+use Rattle.ch_timed.specs.Start.{at_places, start, start_item, start_items}
 use Rattle.ch_timed.proofs.ItemCases.{each_item}
-use Rattle.ch_timed.proofs.Rolls.{start_assign, start_loop}
+use Rattle.ch_timed.proofs.Listings.{places_append, places_met}
+use Rattle.ch_timed.proofs.Rolls.{start_assign, start_if, start_loop}
 
 -- whether nothing was found
 
@@ -70,12 +73,12 @@ and_assoc false b c = refl
 
 -- the accesses of one instance
 
-module _ (arrays : List ArrayDecl) (point : List ℤ) where
+module _ (extents : List (List ℕ)) (point : List ℤ) where
   abbrev pub all_inside : List Access → Bool
-  all_inside = list_all (access_inside arrays point)
+  all_inside = list_all (access_inside extents point)
 
   abbrev Same : Expr → Type 0
-  Same e = expr_inside arrays point e ≡ all_inside (reads e)
+  Same e = expr_inside extents point e ≡ all_inside (reads e)
 
   abbrev Known : Type 0
   Known = (e : Expr) × Same e
@@ -85,17 +88,17 @@ module _ (arrays : List ArrayDecl) (point : List ℤ) where
 
   all_append : (xs ys : List Access) → all_inside (xs ++ ys) ≡ (all_inside xs && all_inside ys)
   all_append [] ys = refl
-  all_append (x ∷ xs) ys = ap (λ b. access_inside arrays point x && b) (all_append xs ys) ∙ and_assoc (access_inside arrays point x) (all_inside xs) (all_inside ys)
+  all_append (x ∷ xs) ys = ap (λ b. access_inside extents point x && b) (all_append xs ys) ∙ and_assoc (access_inside extents point x) (all_inside xs) (all_inside ys)
 
   both : (a b : Bool) (xs ys : List Access) → a ≡ all_inside xs → b ≡ all_inside ys → (a && b) ≡ all_inside (xs ++ ys)
   both a b xs ys p q = ap₂ (λ x y. x && y) p q ∙ sym (all_append xs ys)
 
   layer : (y : Expr-F Known)
-      → expr_inside_step arrays point (map-Expr Expr Bool (expr_inside arrays point) (map-Expr Known Expr bare y))
+      → expr_inside_step extents point (map-Expr Expr Bool (expr_inside extents point) (map-Expr Known Expr bare y))
       ≡ all_inside (reads_step (map-Expr Expr (List Access) reads (map-Expr Known Expr bare y)))
   layer (Expr-F.Number m) = refl
   layer (Expr-F.Iter k) = refl
-  layer (Expr-F.Read a) = and_true (access_inside arrays point a)
+  layer (Expr-F.Read a) = and_true (access_inside extents point a)
   layer (Expr-F.Neg x) = x.1
   layer (Expr-F.Add x y) = both _ _ _ _ x.1 y.1
   layer (Expr-F.Sub x y) = both _ _ _ _ x.1 y.1
@@ -103,19 +106,19 @@ module _ (arrays : List ArrayDecl) (point : List ℤ) where
 
   reads_inside : (e : Expr) → Same e
   reads_inside = ind-Expr Same (λ x y is.
-      fold-roll-Expr Bool (expr_inside_step arrays point) x
-      ∙ subst (λ z. expr_inside_step arrays point (map-Expr Expr Bool (expr_inside arrays point) z) ≡ all_inside (reads_step (map-Expr Expr (List Access) reads z))) is (layer y)
+      fold-roll-Expr Bool (expr_inside_step extents point) x
+      ∙ subst (λ z. expr_inside_step extents point (map-Expr Expr Bool (expr_inside extents point) z) ≡ all_inside (reads_step (map-Expr Expr (List Access) reads z))) is (layer y)
       ∙ ap all_inside (sym (fold-roll-Expr (List Access) reads_step x)))
 
   free_if : (b : Bool) (k : ℕ) (c : Cell) (more : Option Leaving) → free (leaving_if b k c more) ≡ (b && free more)
   free_if true k c more = refl
   free_if false k c more = refl
 
-  free_leaving : (k : ℕ) (accesses : List Access) → free (first_leaving arrays point k accesses) ≡ all_inside accesses
+  free_leaving : (k : ℕ) (accesses : List Access) → free (first_leaving extents point k accesses) ≡ all_inside accesses
   free_leaving k [] = refl
   free_leaving k (a ∷ more) =
-      free_if (access_inside arrays point a) k (cell_of point a) (first_leaving arrays point (suc k) more)
-      ∙ ap (λ b. access_inside arrays point a && b) (free_leaving (suc k) more)
+      free_if (access_inside extents point a) k (cell_of point a) (first_leaving extents point (suc k) more)
+      ∙ ap (λ b. access_inside extents point a && b) (free_leaving (suc k) more)
 
 free_range : (first : Identity) (l : Option Leaving) → free (out_of_range first l) ≡ free l
 free_range first None = refl
@@ -125,59 +128,78 @@ abbrev instance : ℕ → Body → List ℤ → Element
 instance label body point = record { identity = record { label = Stmt label; iters = point }; vector = []; body = body }
 
 free_instance : (nest : LoopNest) (label : ℕ) (body : Body) (point : List ℤ)
-    → free (leaving nest (instance label body point)) ≡ (access_inside nest.arrays point body.write && expr_inside nest.arrays point body.right)
+    → free (leaving nest (instance label body point)) ≡ (access_inside (extents_of nest.arrays) point body.write && expr_inside (extents_of nest.arrays) point body.right)
 free_instance nest label body point =
-    free_range (record { label = Stmt label; iters = point }) (first_leaving nest.arrays point (accesses_before nest.items (Stmt label)) (text_accesses body))
-    ∙ free_leaving nest.arrays point (accesses_before nest.items (Stmt label)) (text_accesses body)
-    ∙ ap (λ b. access_inside nest.arrays point body.write && b) (sym (reads_inside nest.arrays point body.right))
+    free_range (record { label = Stmt label; iters = point }) (first_leaving (extents_of nest.arrays) point (accesses_before nest.items (Stmt label)) (text_accesses body))
+    ∙ free_leaving (extents_of nest.arrays) point (accesses_before nest.items (Stmt label)) (text_accesses body)
+    ∙ ap (λ b. access_inside (extents_of nest.arrays) point body.write && b) (sym (reads_inside (extents_of nest.arrays) point body.right))
 
 pub inside_is_free : (nest : LoopNest) (label : ℕ) (body : Body) (point : List ℤ) (inside : Bool)
-    → inside ≡ (access_inside nest.arrays point body.write && expr_inside nest.arrays point body.right) → inside ≡ true
+    → inside ≡ (access_inside (extents_of nest.arrays) point body.write && expr_inside (extents_of nest.arrays) point body.right) → inside ≡ true
     → None ≡ leaving nest (instance label body point)
 inside_is_free nest label body point inside e h = sym (free_none _ (free_instance nest label body point ∙ sym e ∙ h))
 
 -- one layer of an item
 
-loop_refusal : (nest : LoopNest) (lows highs : List Form) (items : List Item) (point : List ℤ)
-    → item_refusal nest (Loop lows highs items) point ≡ refusal_step nest (Item-F.Loop lows highs (map (item_refusal nest) items)) point
-loop_refusal nest lows highs items point = ap (λ f. f point) (ap (item_refusal nest) (sym (rolls-Loop lows highs items)) ∙ fold-roll-Item Search (refusal_step nest) _)
+loop_refusal : (nest : LoopNest) (lows highs : List Form) (step : ℕ) (items : List Item) (point : List ℤ)
+    → item_refusal nest (Loop lows highs step items) point ≡ first_value (values_at lows highs step point) (λ i. items_refusal nest items (point ++ i ∷ []))
+loop_refusal nest lows highs step items point = ap (λ f. f point) (ap (item_refusal nest) (sym (rolls-Loop lows highs step items)) ∙ fold-roll-Item Search (refusal_step nest) _)
+
+if_refusal : (nest : LoopNest) (row : Form) (items : List Item) (point : List ℤ)
+    → item_refusal nest (If row items) point ≡ (if is_met row point then items_refusal nest items point else None)
+if_refusal nest row items point = ap (λ f. f point) (ap (item_refusal nest) (sym (rolls-If row items)) ∙ fold-roll-Item Search (refusal_step nest) _)
 
 assign_refusal : (nest : LoopNest) (label : ℕ) (body : Body) (point : List ℤ) → item_refusal nest (Assign label body) point ≡ leaving nest (instance label body point)
 assign_refusal nest label body point = ap (λ f. f point) (ap (item_refusal nest) (sym (rolls-Assign label body)) ∙ fold-roll-Item Search (refusal_step nest) _)
 
-loop_work : (lows highs : List Form) (items : List Item) (point : List ℤ)
-    → item_work (Loop lows highs items) point ≡ turns_work (count (low_of lows point) (high_of highs point)) (low_of lows point) (λ i. items_work items (point ++ i ∷ []))
-loop_work lows highs items point = ap (λ f. f point) (ap item_work (sym (rolls-Loop lows highs items)) ∙ fold-roll-Item Measure work_step _)
+pub loop_work : (lows highs : List Form) (step : ℕ) (items : List Item) (point : List ℤ)
+    → item_work (Loop lows highs step items) point ≡ turns_work (values_at lows highs step point) (λ i. items_work items (point ++ i ∷ []))
+loop_work lows highs step items point = ap (λ f. f point) (ap item_work (sym (rolls-Loop lows highs step items)) ∙ fold-roll-Item Measure work_step _)
 
-assign_work : (label : ℕ) (body : Body) (point : List ℤ) → item_work (Assign label body) point ≡ 1
+pub if_work : (row : Form) (items : List Item) (point : List ℤ) → item_work (If row items) point ≡ (if is_met row point then items_work items point else 0)
+if_work row items point = ap (λ f. f point) (ap item_work (sym (rolls-If row items)) ∙ fold-roll-Item Measure work_step _)
+
+pub assign_work : (label : ℕ) (body : Body) (point : List ℤ) → item_work (Assign label body) point ≡ 1
 assign_work label body point = ap (λ f. f point) (ap item_work (sym (rolls-Assign label body)) ∙ fold-roll-Item Measure work_step _)
 
 -- nothing is found exactly if all subscripts stay inside
 
 module _ (nest : LoopNest) where
-  abbrev Freed : Item → Type 0
-  Freed item = (point : List ℤ) → free (item_refusal nest item point) ≡ item_inside nest.arrays item point
+  abbrev extents : List (List ℕ)
+  extents = extents_of nest.arrays
 
-  each_freed : (items : List Item) → Each Freed items → (point : List ℤ) → free (items_refusal nest items point) ≡ items_inside nest.arrays items point
+  abbrev Freed : Item → Type 0
+  Freed item = (point : List ℤ) → free (item_refusal nest item point) ≡ item_inside extents item point
+
+  each_freed : (items : List Item) → Each Freed items → (point : List ℤ) → free (items_refusal nest items point) ≡ items_inside extents items point
   each_freed [] h point = refl
   each_freed (i ∷ is) h point = free_or (item_refusal nest i point) (items_refusal nest is point) ∙ ap₂ (λ x y. x && y) (h.0 point) (each_freed is h.1 point)
 
-  turns_freed : (n : ℕ) (low : ℤ) (f : ℤ → Option SpaceError) (t : ℤ → Bool) → ((i : ℤ) → free (f i) ≡ t i) → free (first_turn n low f) ≡ each_turn n low t
-  turns_freed zero low f t h = refl
-  turns_freed (suc n) low f t h = free_or (first_turn n low f) (f (low +ℤ pos n)) ∙ ap₂ (λ x y. x && y) (turns_freed n low f t h) (h (low +ℤ pos n))
+  turns_freed : (xs : List ℤ) (f : ℤ → Option SpaceError) (t : ℤ → Bool) → ((i : ℤ) → free (f i) ≡ t i) → free (first_value xs f) ≡ list_all t xs
+  turns_freed [] f t h = refl
+  turns_freed (x ∷ xs) f t h = free_or (f x) (first_value xs f) ∙ ap₂ (λ x y. x && y) (h x) (turns_freed xs f t h)
 
-  loop_freed : (lows highs : List Form) (items : List Item) → Each Freed items → Freed (Loop lows highs items)
-  loop_freed lows highs items h point =
-      ap free (loop_refusal nest lows highs items point)
-      ∙ turns_freed (count (low_of lows point) (high_of highs point)) (low_of lows point) (λ i. items_refusal nest items (point ++ i ∷ [])) (λ i. items_inside nest.arrays items (point ++ i ∷ []))
+  loop_freed : (lows highs : List Form) (step : ℕ) (items : List Item) → Each Freed items → Freed (Loop lows highs step items)
+  loop_freed lows highs step items h point =
+      ap free (loop_refusal nest lows highs step items point)
+      ∙ turns_freed (values_at lows highs step point) (λ i. items_refusal nest items (point ++ i ∷ [])) (λ i. items_inside extents items (point ++ i ∷ []))
       (λ i. each_freed items h (point ++ i ∷ []))
-      ∙ sym (inside_loop_is nest.arrays lows highs items point)
+      ∙ sym (inside_loop_is nest.arrays lows highs step items point)
+
+  if_freed : (row : Form) (items : List Item) → Each Freed items → Freed (If row items)
+  if_freed row items h point =
+      ap free (if_refusal nest row items point) ∙ by (is_met row point) (each_freed items h point) ∙ sym (inside_if_is nest.arrays row items point)
+    where
+      by : (b : Bool) → free (items_refusal nest items point) ≡ items_inside extents items point
+          → free (if b then items_refusal nest items point else None) ≡ (if b then items_inside extents items point else true)
+      by true e = e
+      by false e = refl
 
   assign_freed : (label : ℕ) (body : Body) → Freed (Assign label body)
   assign_freed label body point = ap free (assign_refusal nest label body point) ∙ free_instance nest label body point ∙ sym (inside_assign_is nest.arrays label body point)
 
-  pub all_freed : free (items_refusal nest nest.items []) ≡ items_inside nest.arrays nest.items []
-  all_freed = each_freed nest.items (each_item Freed loop_freed assign_freed nest.items) []
+  pub all_freed : free (items_refusal nest nest.items []) ≡ items_inside extents nest.items []
+  all_freed = each_freed nest.items (each_item Freed loop_freed if_freed assign_freed nest.items) []
 
   -- the walk finds what the first element of the list has that has a refusal
 
@@ -187,33 +209,52 @@ module _ (nest : LoopNest) where
       ap (or_else (leaving nest x)) (first_append xs ys) ∙ sym (or_assoc (leaving nest x) (first_of (leaving nest) xs) (first_of (leaving nest) ys))
 
   abbrev Listed : Item → Type 0
-  Listed item = (iters vector : List ℤ) → first_of (leaving nest) (start_item item iters vector) ≡ item_refusal nest item iters
+  Listed item = (k : ℕ) (iters vector : List ℤ) → first_of (leaving nest) (at_places k (start_item item) iters vector) ≡ item_refusal nest item iters
 
   each_listed : (items : List Item) → Each Listed items → (k : ℕ) (iters vector : List ℤ)
-      → first_of (leaving nest) (at_places k (map start_item items) iters vector) ≡ items_refusal nest items iters
+      → first_of (leaving nest) (at_places k (start_items items) iters vector) ≡ items_refusal nest items iters
   each_listed [] h k iters vector = refl
   each_listed (i ∷ is) h k iters vector =
-      first_append (start_item i iters (vector ++ pos k ∷ [])) (at_places (suc k) (map start_item is) iters vector)
-      ∙ ap₂ or_else (h.0 iters (vector ++ pos k ∷ [])) (each_listed is h.1 (suc k) iters vector)
+      ap (first_of (leaving nest)) (places_append k (start_item i) (start_items is) iters vector)
+      ∙ first_append (at_places k (start_item i) iters vector) (at_places (k + length (start_item i)) (start_items is) iters vector)
+      ∙ ap₂ or_else (h.0 k iters vector) (each_listed is h.1 (k + length (start_item i)) iters vector)
 
-  all_turns : (n : ℕ) (low : ℤ) (g : ℤ → List Element) (f : ℤ → Option SpaceError) → ((i : ℤ) → first_of (leaving nest) (g i) ≡ f i)
-      → first_of (leaving nest) (turns_listed n low g) ≡ first_turn n low f
-  all_turns zero low g f h = refl
-  all_turns (suc n) low g f h = first_append (turns_listed n low g) (g (low +ℤ pos n)) ∙ ap₂ or_else (all_turns n low g f h) (h (low +ℤ pos n))
+  all_turns : (xs : List ℤ) (g : ℤ → List Element) (f : ℤ → Option SpaceError) → ((i : ℤ) → first_of (leaving nest) (g i) ≡ f i)
+      → first_of (leaving nest) (flat_map g xs) ≡ first_value xs f
+  all_turns [] g f h = refl
+  all_turns (x ∷ xs) g f h = first_append (g x) (flat_map g xs) ∙ ap₂ or_else (h x) (all_turns xs g f h)
 
-  loop_listed : (lows highs : List Form) (items : List Item) → Each Listed items → Listed (Loop lows highs items)
-  loop_listed lows highs items h iters vector =
-      ap (first_of (leaving nest)) (start_loop lows highs items iters vector)
-      ∙ all_turns (count (low_of lows iters) (high_of highs iters)) (low_of lows iters) (λ i. at_places 0 (map start_item items) (iters ++ i ∷ []) (vector ++ i ∷ []))
-      (λ i. items_refusal nest items (iters ++ i ∷ [])) (λ i. each_listed items h 0 (iters ++ i ∷ []) (vector ++ i ∷ []))
-      ∙ sym (loop_refusal nest lows highs items iters)
+  first_alone : (es : List Element) → first_of (leaving nest) (es ++ []) ≡ first_of (leaving nest) es
+  first_alone es = ap (first_of (leaving nest)) (append-nil es)
+
+  loop_listed : (lows highs : List Form) (step : ℕ) (items : List Item) → Each Listed items → Listed (Loop lows highs step items)
+  loop_listed lows highs step items h k iters vector =
+      let v : List ℤ = vector ++ pos k ∷ [] in
+      let g : ℤ → List Element = λ i. at_places 0 (start_items items) (iters ++ i ∷ []) (v ++ i ∷ []) in
+      ap (λ fs. first_of (leaving nest) (at_places k fs iters vector)) (start_loop lows highs step items)
+      ∙ first_alone (flat_map g (values_at lows highs step iters))
+      ∙ all_turns (values_at lows highs step iters) g
+      (λ i. items_refusal nest items (iters ++ i ∷ [])) (λ i. each_listed items h 0 (iters ++ i ∷ []) (v ++ i ∷ []))
+      ∙ sym (loop_refusal nest lows highs step items iters)
+
+  if_listed : (row : Form) (items : List Item) → Each Listed items → Listed (If row items)
+  if_listed row items h k iters vector =
+      ap (λ fs. first_of (leaving nest) (at_places k fs iters vector)) (start_if row items)
+      ∙ ap (first_of (leaving nest)) (places_met row k (start_items items) iters vector)
+      ∙ by (is_met row iters) (each_listed items h k iters vector) ∙ sym (if_refusal nest row items iters)
+    where
+      by : (b : Bool) → first_of (leaving nest) (at_places k (start_items items) iters vector) ≡ items_refusal nest items iters
+          → first_of (leaving nest) (if b then at_places k (start_items items) iters vector else []) ≡ (if b then items_refusal nest items iters else None)
+      by true e = e
+      by false e = refl
 
   assign_listed : (label : ℕ) (body : Body) → Listed (Assign label body)
-  assign_listed label body iters vector =
-      ap (first_of (leaving nest)) (start_assign label body iters vector) ∙ or_none (leaving nest (instance label body iters)) ∙ sym (assign_refusal nest label body iters)
+  assign_listed label body k iters vector =
+      ap (λ fs. first_of (leaving nest) (at_places k fs iters vector)) (start_assign label body)
+      ∙ or_none (leaving nest (instance label body iters)) ∙ sym (assign_refusal nest label body iters)
 
   pub all_listed : first_of (leaving nest) (start nest) ≡ items_refusal nest nest.items []
-  all_listed = each_listed nest.items (each_item Listed loop_listed assign_listed nest.items) 0 [] []
+  all_listed = each_listed nest.items (each_item Listed loop_listed if_listed assign_listed nest.items) 0 [] []
 
 -- the law
 
@@ -234,11 +275,11 @@ sound_none most work (Some x) false e h = absurd cc
 
 pub sound_if_none : (nest : LoopNest) → judgement nest ≡ None → is_sound nest ≡ true
 sound_if_none nest h =
-    none_sound most_work (items_work nest.items []) (first_of (leaving nest) (start nest)) (items_inside nest.arrays nest.items []) (ap free (all_listed nest) ∙ all_freed nest) h
+    none_sound most_work (items_work nest.items []) (first_of (leaving nest) (start nest)) (items_inside (extents_of nest.arrays) nest.items []) (ap free (all_listed nest) ∙ all_freed nest) h
 
 pub none_if_sound : (nest : LoopNest) → is_sound nest ≡ true → judgement nest ≡ None
 none_if_sound nest h =
-    sound_none most_work (items_work nest.items []) (first_of (leaving nest) (start nest)) (items_inside nest.arrays nest.items []) (ap free (all_listed nest) ∙ all_freed nest) h
+    sound_none most_work (items_work nest.items []) (first_of (leaving nest) (start nest)) (items_inside (extents_of nest.arrays) nest.items []) (ap free (all_listed nest) ∙ all_freed nest) h
 
 too_many : (most work : ℕ) (r : Option SpaceError) → most < work → (if nat_lt most work then Some TooMany else r) ≡ Some TooMany
 too_many most work r h = grind (arith, nat_tests)
@@ -307,69 +348,80 @@ rest_done nest items point k first walk l r =
 
 -- turns
 
-turns_grow : (n m : ℕ) (low : ℤ) (f : ℤ → ℕ) → m ≤ n → turns_work m low f ≤ turns_work n low f
-turns_grow zero m low f l = let e : m ≡ 0 = omega arith in rw e (omega arith)
-turns_grow (suc n) m low f l = elim (cases_lt n m) as (λ _. turns_work m low f ≤ turns_work (suc n) low f) [
-  | inl all ↦ let e : m ≡ suc n = omega arith in rw e (omega arith)
-  | inr some ↦ let h = turns_grow n m low f some in omega arith
-]
+-- a walk through a loop that has come to a value
+pub record Turned (nest : LoopNest) (item : Item) (items : List Item) (point : List ℤ) (step : ℕ) (value high : ℤ) (first walk : Walk) : Type 0 where
+  pub left : walk.left + item_work item point ≡ first.left + turns_work (loop_values value high step) (λ i. items_work items (point ++ i ∷ []))
+  pub found : or_else walk.found (first_value (loop_values value high step) (λ i. items_refusal nest items (point ++ i ∷ []))) ≡ or_else first.found (item_refusal nest item point)
 
--- a walk through the first k turns of a loop
-abbrev pub Turned : LoopNest → List Item → List ℤ → ℤ → ℕ → Walk → Walk → Type 0
-Turned nest items point low k first walk =
-    GoesOn (turns_work k low (λ i. items_work items (point ++ i ∷ []))) (first_turn k low (λ i. items_refusal nest items (point ++ i ∷ []))) first walk
-
-pub turns_begin : (nest : LoopNest) (items : List Item) (point : List ℤ) (low : ℤ) (walk : Walk) → Turned nest items point low 0 walk walk
-turns_begin nest items point low walk = record { left = omega arith; found = sym (or_none walk.found) }
-
-pub turn_goes_on : (nest : LoopNest) (items : List Item) (point inner : List ℤ) (low : ℤ) (k : ℕ) (first walk turn next : Walk) → inner ≡ point ++ (low +ℤ pos k) ∷ []
-    → Turned nest items point low k first walk → GoesOn 1 None walk turn → GoesOn (items_work items inner) (items_refusal nest items inner) turn next
-    → Turned nest items point low (k + 1) first next
-turn_goes_on nest items point inner low k first walk turn next e t one g =
-    let here = rw e at g in
-    let a = t.left in
-    let b = one.left in
-    let c : next.left + items_work items (point ++ (low +ℤ pos k) ∷ []) ≡ turn.left = here.left in
-    rw add-one (record {
-      left = omega arith;
-      found = here.found ∙ ap (λ f. or_else f (items_refusal nest items (point ++ (low +ℤ pos k) ∷ []))) (one.found ∙ or_none walk.found ∙ t.found)
-          ∙ or_assoc first.found (first_turn k low (λ i. items_refusal nest items (point ++ i ∷ []))) (items_refusal nest items (point ++ (low +ℤ pos k) ∷ []));
+pub turns_begin : (nest : LoopNest) (item : Item) (lows highs : List Form) (step : ℕ) (items : List Item) (point : List ℤ) (low high : ℤ) (walk : Walk)
+    → item ≡ Loop lows highs step items → low ≡ low_of lows point → high ≡ high_of highs point → Turned nest item items point step low high walk walk
+turns_begin nest item lows highs step items point low high walk is l h =
+    rw (is, l, h) (record {
+      left = ap (λ n. walk.left + n) (loop_work lows highs step items point);
+      found = ap (or_else walk.found) (sym (loop_refusal nest lows highs step items point));
     })
 
--- what a loop takes is at least what its first k turns and one more take
-loop_takes : (items : List Item) (point : List ℤ) (low : ℤ) (k n : ℕ) → k < n
-    → turns_work k low (λ i. items_work items (point ++ i ∷ [])) + (items_work items (point ++ (low +ℤ pos k) ∷ []) + 1) ≤ turns_work n low (λ i. items_work items (point ++ i ∷ []))
-loop_takes items point low k n l = turns_grow n (suc k) low (λ i. items_work items (point ++ i ∷ [])) l
+-- what a loop takes where it comes to a value
+turns_first : (f : ℤ → ℕ) (value high : ℤ) (step : ℕ) → 1 ≤ step → value ≤ℤ high
+    → turns_work (loop_values value high step) f ≡ f value + 1 + turns_work (loop_values (value +ℤ pos step) high step) f
+turns_first f value high step s l = ap (λ xs. turns_work xs f) (values_next value high step s l)
 
-pub loop_walked : (nest : LoopNest) (item : Item) (lows highs : List Form) (items : List Item) (point : List ℤ) (low high : ℤ) (k n : ℕ) (first walk : Walk)
-    → item ≡ Loop lows highs items → low ≡ low_of lows point → high ≡ high_of highs point → n ≡ count low high → k ≡ n
-    → Turned nest items point low k first walk → GoesOn (item_work item point) (item_refusal nest item point) first walk
-loop_walked nest item lows highs items point low high k n first walk is l h c e t =
-    rw (is, loop_work lows highs items point, loop_refusal nest lows highs items point, ← l, ← h, ← c, ← e) t
-
-loop_short : (item : Item) (lows highs : List Form) (items : List Item) (point : List ℤ) (low high : ℤ) (n left : ℕ)
-    → item ≡ Loop lows highs items → low ≡ low_of lows point → high ≡ high_of highs point → n ≡ count low high
-    → left < turns_work n low (λ i. items_work items (point ++ i ∷ [])) → left < item_work item point
-loop_short item lows highs items point low high n left is l h c t = rw (is, loop_work lows highs items point, ← l, ← h, ← c) t
-
-pub turn_ends : (nest : LoopNest) (item : Item) (lows highs : List Form) (items : List Item) (point : List ℤ) (low high : ℤ) (k n : ℕ) (e : SpaceError) (first walk : Walk)
-    → item ≡ Loop lows highs items → low ≡ low_of lows point → high ≡ high_of highs point → n ≡ count low high → k < n
-    → Turned nest items point low k first walk → Ends e walk.left 1 → Ends e first.left (item_work item point)
-turn_ends nest item lows highs items point low high k n e first walk is l h c b t ends =
+pub turn_goes_on : (nest : LoopNest) (item : Item) (items : List Item) (point inner : List ℤ) (step : ℕ) (value high : ℤ) (first walk turn next : Walk) → 1 ≤ step → value ≤ℤ high
+    → inner ≡ point ++ value ∷ [] → Turned nest item items point step value high first walk → GoesOn 1 None walk turn → GoesOn (items_work items inner) (items_refusal nest items inner) turn next
+    → Turned nest item items point step (value +ℤ pos step) high first next
+turn_goes_on nest item items point inner step value high first walk turn next s l e t one g =
+    let f : ℤ → ℕ = λ i. items_work items (point ++ i ∷ []) in
+    let r : ℤ → Option SpaceError = λ i. items_refusal nest items (point ++ i ∷ []) in
+    let here : GoesOn (f value) (r value) turn next = subst (λ p. GoesOn (items_work items p) (items_refusal nest items p) turn next) e g in
     let a = t.left in
-    let more = loop_takes items point low k n b in
-    ends_later e walk.left 1 first.left (item_work item point) ends (λ short. loop_short item lows highs items point low high n first.left is l h c (omega arith))
+    let b = one.left in
+    let c = here.left in
+    let d = turns_first f value high step s l in
+    let same : or_else walk.found (or_else (r value) (first_value (loop_values (value +ℤ pos step) high step) r)) ≡ or_else first.found (item_refusal nest item point) =
+    ap (λ xs. or_else walk.found (first_value xs r)) (sym (values_next value high step s l)) ∙ t.found in
+    record {
+      left = omega arith;
+      found = ap (λ o. or_else o (first_value (loop_values (value +ℤ pos step) high step) r)) (here.found ∙ ap (λ o. or_else o (r value)) (one.found ∙ or_none walk.found))
+          ∙ or_assoc walk.found (r value) (first_value (loop_values (value +ℤ pos step) high step) r) ∙ same;
+    }
 
-pub inner_ends : (nest : LoopNest) (item : Item) (lows highs : List Form) (items : List Item) (point inner : List ℤ) (low high : ℤ) (k n : ℕ) (e : SpaceError) (first walk turn : Walk)
-    → item ≡ Loop lows highs items → low ≡ low_of lows point → high ≡ high_of highs point → n ≡ count low high → k < n → inner ≡ point ++ (low +ℤ pos k) ∷ []
-    → Turned nest items point low k first walk → GoesOn 1 None walk turn → Ends e turn.left (items_work items inner) → Ends e first.left (item_work item point)
-inner_ends nest item lows highs items point inner low high k n e first walk turn is l h c b same t one ends =
+pub turns_end : (nest : LoopNest) (item : Item) (items : List Item) (point : List ℤ) (step : ℕ) (value high : ℤ) (first walk : Walk) → high <ℤ value
+    → Turned nest item items point step value high first walk → GoesOn (item_work item point) (item_refusal nest item point) first walk
+turns_end nest item items point step value high first walk past t =
+    let none = values_none value high step past in
+    let a = ap (λ xs. turns_work xs (λ i. items_work items (point ++ i ∷ []))) none in
+    let b = t.left in
+    record {
+      left = omega arith;
+      found = sym (or_none walk.found) ∙ ap (λ xs. or_else walk.found (first_value xs (λ i. items_refusal nest items (point ++ i ∷ [])))) (sym none) ∙ t.found;
+    }
+
+pub turn_short : (nest : LoopNest) (item : Item) (items : List Item) (point : List ℤ) (step : ℕ) (value high : ℤ) (e : SpaceError) (first walk : Walk) → 1 ≤ step → value ≤ℤ high
+    → Turned nest item items point step value high first walk → Ends e walk.left 1 → Ends e first.left (item_work item point)
+turn_short nest item items point step value high e first walk s l t ends =
     let a = t.left in
-    let d = one.left in
-    let more = loop_takes items point low k n b in
-    let here : Ends e turn.left (items_work items (point ++ (low +ℤ pos k) ∷ [])) = rw same at ends in
-    ends_later e turn.left (items_work items (point ++ (low +ℤ pos k) ∷ [])) first.left (item_work item point) here
-    (λ short. loop_short item lows highs items point low high n first.left is l h c (omega arith))
+    let d = turns_first (λ i. items_work items (point ++ i ∷ [])) value high step s l in
+    ends_later e walk.left 1 first.left (item_work item point) ends (λ short. omega arith)
+
+pub inner_short : (nest : LoopNest) (item : Item) (items : List Item) (point inner : List ℤ) (step : ℕ) (value high : ℤ) (e : SpaceError) (first walk turn : Walk) → 1 ≤ step → value ≤ℤ high
+    → inner ≡ point ++ value ∷ [] → Turned nest item items point step value high first walk → GoesOn 1 None walk turn → Ends e turn.left (items_work items inner)
+    → Ends e first.left (item_work item point)
+inner_short nest item items point inner step value high e first walk turn s l same t one ends =
+    let f : ℤ → ℕ = λ i. items_work items (point ++ i ∷ []) in
+    let a = t.left in
+    let b = one.left in
+    let d = turns_first f value high step s l in
+    let here : Ends e turn.left (f value) = subst (λ p. Ends e turn.left (items_work items p)) same ends in
+    ends_later e turn.left (f value) first.left (item_work item point) here (λ short. omega arith)
+
+pub met_walked : (nest : LoopNest) (item : Item) (row : Form) (items : List Item) (point : List ℤ) (r : Result Walk SpaceError) (walk : Walk) → item ≡ If row items → true ≡ is_met row point
+    → Walks r (items_work items point) (items_refusal nest items point) walk → Walks r (item_work item point) (item_refusal nest item point) walk
+met_walked nest item row items point r walk is m h = rw (is, if_work row items point, if_refusal nest row items point, ← m) h
+
+pub unmet_walked : (nest : LoopNest) (item : Item) (row : Form) (items : List Item) (point : List ℤ) (walk : Walk) → item ≡ If row items → false ≡ is_met row point
+    → GoesOn (item_work item point) (item_refusal nest item point) walk walk
+unmet_walked nest item row items point walk is m =
+    rw (is, if_work row items point, if_refusal nest row items point, ← m) (record { left = omega arith; found = sym (or_none walk.found) })
 
 pub assign_walked : (nest : LoopNest) (item : Item) (label : ℕ) (body : Body) (point : List ℤ) (r : Result Walk SpaceError) (walk : Walk) → item ≡ Assign label body
     → Walks r 1 (leaving nest (instance label body point)) walk → Walks r (item_work item point) (item_refusal nest item point) walk

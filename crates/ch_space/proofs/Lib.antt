@@ -1,4 +1,5 @@
 pub mod Turnings
+pub mod FindingCases
 pub mod Findings
 pub mod Sums
 pub mod Shapes

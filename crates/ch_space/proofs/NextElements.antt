@@ -13,14 +13,15 @@ use Rattle.ch_timed.specs.Members.{In}
 use Rattle.ch_timed.specs.Next.{first_if, next_after}
 use Rattle.ch_timed.specs.Vectors.{comes_before, woven}
 use Rattle.ch_timed.specs.declared.element.Element.{Element}
-use Rattle.ch_timed.proofs.Orders.{IsAscending, at_each, from_order, in_map, map_in, not_both, not_itself, ordered_ascends, to_order}
+use Rattle.ch_timed.proofs.Orders.{IsAscending, at_each, from_order, in_map, map_in, not_both, not_itself, to_order}
 use Rattle.ch_space.specs.declared.piece.Piece.{Piece}
 use Rattle.ch_space.specs.Following.{BeginsWith, ComesAfter, IsLeast, IsNext, UpTo, earlier, second_if}
 use Rattle.ch_space.specs.Keeps.{AreApart, IsWhole, places_of}
 use Rattle.ch_space.specs.Pieces.{element_at, elements, instances, listed}
 use Rattle.ch_space.proofs.Followings.{is_less}
 use Rattle.ch_space.proofs.Membership.{append_left, append_right, in_append}
-use Rattle.ch_space.proofs.PieceElements.{levels_of, long, one_each, woven_same}
+use Rattle.ch_space.proofs.PieceElements.{levels_of, long, woven_same}
+use Rattle.ch_space.proofs.PieceNumbers.{listed_ascends}
 
 order : IsTotalOrder (slice_cmp int_cmp)
 order = lists_total int_cmp_total
@@ -121,9 +122,9 @@ module _ (vector : List ℤ) where
 
   pub next_listed : (ps : List Piece) (r : Option Element) → AreApart ps → IsNext vector (flat_map elements ps) r → r ≡ next_after vector (listed ps)
   next_listed ps r a h =
-      sym (next_first (listed ps) r (ordered_ascends (λ e. e.vector) (flat_map elements ps))
+      sym (next_first (listed ps) r (listed_ascends ps a)
       (next_members (flat_map elements ps) (listed ps) r
-      (λ e i. to_order (λ e. e.vector) (flat_map elements ps) (one_each ps a) e i) (λ e i. from_order (λ e. e.vector) (flat_map elements ps) e i) h))
+      (λ e i. to_order (λ e. e.vector) (flat_map elements ps) e i) (λ e i. from_order (λ e. e.vector) (flat_map elements ps) e i) h))
 
   -- the next element of a piece
 

@@ -12,7 +12,7 @@ use Rattle.ch_timed.specs.Members.{In, Each}
 use Rattle.ch_timed.specs.declared.element.Element.{Element}
 use Rattle.ch_timed.specs.Vectors.{places, values, woven}
 use Rattle.ch_timed.proofs.Blocks.{int_less}
-use Rattle.ch_timed.proofs.Orders.{OneEach, IsAscending, each_more, at_each, in_map}
+use Rattle.ch_timed.proofs.Orders.{IsAscending, each_more, at_each, in_map}
 use Rattle.ch_space.specs.declared.piece.Piece.{Piece}
 use Rattle.ch_space.specs.Pieces.{element_at, instances, elements}
 use Rattle.ch_space.specs.Keeps.{IsWhole, places_of, AllLater, AreApart}
@@ -83,7 +83,11 @@ in_stands ps e i =
     let x = in_map (element_at p.0) (instances p.0) e p.1.1 in
     record { piece = p.0; is_piece = p.1.0; instance = x.0; is_instance = x.1.0; is = x.1.1 }
 
-pub one_each : (ps : List Piece) → AreApart ps → OneEach (λ e. e.vector) (flat_map elements ps)
+-- elements at one vector are one
+abbrev pub OneEach : List Element → Type 0
+OneEach es = (e f : Element) → In e es → In f es → e.vector ≡ f.vector → e ≡ f
+
+pub one_each : (ps : List Piece) → AreApart ps → OneEach (flat_map elements ps)
 one_each ps a e f i j v =
     let s = in_stands ps e i in
     let t = in_stands ps f j in

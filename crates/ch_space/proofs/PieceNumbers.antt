@@ -12,19 +12,19 @@ use Rattle.std.proofs.lemmas.List.FromFn.{map-range_with_len_more}
 use Rattle.std.proofs.lemmas.List.Elements.{filter-append}
 use Rattle.std.proofs.lemmas.List.Concat.{length-flat_map}
 use Rattle.std.proofs.lemmas.List.Sums.{sum-map, sum_by-cons}
-use Rattle.ch_timed.specs.Members.{In, Each}
+use Rattle.ch_timed.specs.Members.{In, Each, Pairwise}
 use Rattle.ch_timed.specs.declared.element.Element.{Element}
 use Rattle.ch_timed.specs.Groups.{piece}
-use Rattle.ch_timed.specs.Ordered.{put, put_by, ordered}
 use Rattle.ch_timed.specs.Timed.{pieces}
 use Rattle.ch_timed.specs.Vectors.{places, same_numbers}
-use Rattle.ch_timed.proofs.Orders.{IsAscending, ascending_same, ordered_ascends, from_order, to_order, map_in, in_map, at_each}
+use Rattle.ch_timed.proofs.Identities.{pairwise_both}
+use Rattle.ch_timed.proofs.Orders.{AllDiffer, Differ, IsAscending, ascending_differ, ascending_same, ordered_ascends, ordered_length, from_once, from_order, once_ascends, to_once, to_order, map_in, in_map, at_each}
 use Rattle.ch_space.specs.declared.piece.Piece.{Piece}
 use Rattle.ch_space.specs.Pieces.{element_at, instances, elements, listed}
 use Rattle.ch_space.specs.Keeps.{places_of, AllLater, AreApart}
 use Rattle.ch_space.specs.Members.{members, sharing, group}
-use Rattle.ch_space.proofs.Membership.{in_append, flat_in, in_filter, filter_in}
-use Rattle.ch_space.proofs.PieceElements.{one_each, whole_in, element_places, elements_ascend, filter_ascends, StandsFor, in_stands, same_piece, later_in, never}
+use Rattle.ch_space.proofs.Membership.{flat_in, in_filter, filter_in}
+use Rattle.ch_space.proofs.PieceElements.{each_from_in, whole_in, element_places, elements_ascend, filter_ascends, StandsFor, in_stands, same_piece, later_in, never}
 
 pub some_in : {X : Type 0} (xs : List X) → (xs ≢ []) → (x : X) × In x xs
 some_in [] h = absurd (h refl)
@@ -44,8 +44,8 @@ places_ascend [] a = tt
 places_ascend (p ∷ ps) a = (later_each (places_of p) ps a.2, places_ascend ps a.3)
 
 -- an element of a piece stands in the list
-pub listed_in : (ps : List Piece) (p : Piece) (e : Element) → AreApart ps → In p ps → In e (elements p) → In e (listed ps)
-listed_in ps p e a i j = to_order (λ e. e.vector) (flat_map elements ps) (one_each ps a) e (flat_in elements ps p e i j)
+pub listed_in : (ps : List Piece) (p : Piece) (e : Element) → In p ps → In e (elements p) → In e (listed ps)
+listed_in ps p e i j = to_order (λ e. e.vector) (flat_map elements ps) e (flat_in elements ps p e i j)
 
 pub in_listed : (ps : List Piece) (e : Element) → In e (listed ps) → StandsFor ps e
 in_listed ps e i = in_stands ps e (from_order (λ e. e.vector) (flat_map elements ps) e i)
@@ -53,11 +53,34 @@ in_listed ps e i = in_stands ps e (from_order (λ e. e.vector) (flat_map element
 pub stands_places : (ps : List Piece) (e : Element) → AreApart ps → (s : StandsFor ps e) → places e.vector ≡ places_of s.piece
 stands_places ps e a s = ap (λ z. places z.vector) (sym s.is) ∙ element_places s.piece s.instance (whole_in ps s.piece a s.is_piece) s.is_instance
 
+-- no two elements stand at one vector
+pub elements_differ : (ps : List Piece) → AreApart ps → AllDiffer (λ e. e.vector) (flat_map elements ps)
+elements_differ [] a = tt
+elements_differ (p ∷ ps) a =
+    pairwise_both (Differ (λ e. e.vector)) (elements p) (flat_map elements ps) (ascending_differ (λ e. e.vector) (elements p) (elements_ascend p a.0)) (elements_differ ps a.3)
+    (each_from_in _ (elements p) (λ x i. each_from_in _ (flat_map elements ps) (λ y j v.
+    let u = in_map (element_at p) (instances p) x i in
+    let s = in_stands ps y j in
+    let here : places x.vector ≡ places_of p = ap (λ z. places z.vector) (sym u.1.1) ∙ element_places p u.0 a.0 u.1.0 in
+    never (places_of p) (places_of s.piece) (later_in (places_of p) ps s.piece a.2 s.is_piece) (sym here ∙ ap places v ∙ stands_places ps y a.3 s))))
+
+pub listed_ascends : (ps : List Piece) → AreApart ps → IsAscending (λ e. e.vector) (listed ps)
+listed_ascends ps a = ordered_ascends (λ e. e.vector) (flat_map elements ps) (elements_differ ps a)
+
+-- Where the image of an element tells the element, no two images stand at one vector.
+pub images_differ : {A : Type 0} (key : A → List ℤ) (g : A → A) (xs : List A) → AllDiffer key xs → ((x y : A) → In x xs → In y xs → key (g x) ≡ key (g y) → x ≡ y)
+    → Pairwise (λ x y. Differ key (g x) (g y)) xs
+images_differ key g [] d h = tt
+images_differ key g (x ∷ xs) d h = (
+  each_from_in _ xs (λ y i v. at_each (Differ key x) xs d.0 y i (ap key (h x y (inl refl) (inr i) v))),
+  images_differ key g xs d.1 (λ y z i j. h y z (inr i) (inr j)),
+)
+
 pub numbered : (ps : List Piece) → AreApart ps → pieces (listed ps) ≡ map places_of ps
 numbered ps a =
-    ascending_same (λ v. v) (pieces (listed ps)) (map places_of ps) (ordered_ascends (λ v. v) (map (λ e. places e.vector) (listed ps))) (places_ascend ps a)
+    ascending_same (λ v. v) (pieces (listed ps)) (map places_of ps) (once_ascends (map (λ e. places e.vector) (listed ps))) (places_ascend ps a)
     (λ v i.
-    let e = in_map (λ e. places e.vector) (listed ps) v (from_order (λ v. v) (map (λ e. places e.vector) (listed ps)) v i) in
+    let e = in_map (λ e. places e.vector) (listed ps) v (from_once (map (λ e. places e.vector) (listed ps)) v i) in
     let s = in_listed ps e.0 e.1.0 in
     let same : places_of s.piece ≡ v = sym (stands_places ps e.0 a s) ∙ e.1.1 in
     subst (λ z. In z (map places_of ps)) same (map_in places_of ps s.piece s.is_piece))
@@ -65,9 +88,9 @@ numbered ps a =
     let p = in_map places_of ps v i in
     let x = some_in (instances p.0) (instance_in ps p.0 a p.1.0) in
     let e = element_at p.0 x.0 in
-    let there : In e (listed ps) = listed_in ps p.0 e a p.1.0 (map_in (element_at p.0) (instances p.0) x.0 x.1) in
+    let there : In e (listed ps) = listed_in ps p.0 e p.1.0 (map_in (element_at p.0) (instances p.0) x.0 x.1) in
     let same : places e.vector ≡ v = element_places p.0 x.0 (whole_in ps p.0 a p.1.0) x.1 ∙ p.1.1 in
-    to_order (λ v. v) (map (λ e. places e.vector) (listed ps)) (λ u w j k h. h) v
+    to_once (map (λ e. places e.vector) (listed ps)) v
     (subst (λ z. In z (map (λ e. places e.vector) (listed ps))) same (map_in (λ e. places e.vector) (listed ps) e there)))
 
 pub how_many : (ps : List Piece) → AreApart ps → length (pieces (listed ps)) ≡ length ps
@@ -96,7 +119,7 @@ members_at : (ps : List Piece) (p : Piece) → AreApart ps → In p ps → filte
 members_at ps p a i =
     let test : Element → Bool = λ e. same_numbers (places_of p) (places e.vector) in
     ascending_same (λ e. e.vector) (filter test (listed ps)) (elements p)
-    (filter_ascends (λ e. e.vector) test (listed ps) (ordered_ascends (λ e. e.vector) (flat_map elements ps)))
+    (filter_ascends (λ e. e.vector) test (listed ps) (listed_ascends ps a))
     (elements_ascend p (whole_in ps p a i))
     (λ e j.
     let f = in_filter test (listed ps) e j in
@@ -106,7 +129,7 @@ members_at ps p a i =
     (λ e j.
     let x = in_map (element_at p) (instances p) e j in
     let same : places e.vector ≡ places_of p = ap (λ z. places z.vector) (sym x.1.1) ∙ element_places p x.0 (whole_in ps p a i) x.1.0 in
-    filter_in test (listed ps) e (listed_in ps p e a i j) (lists_same (places_of p) (places e.vector) (sym same)))
+    filter_in test (listed ps) e (listed_in ps p e i j) (lists_same (places_of p) (places e.vector) (sym same)))
 
 pub members_are : (ps : List Piece) (k : ℕ) (d : Piece) → AreApart ps → k < length ps → members (listed ps) k ≡ elements (get_or ps k d)
 members_are ps k d a h =
@@ -119,50 +142,6 @@ member_count ps counts k a e h d =
 
 -- How long the list is.
 
-module _ {A : Type 0} (key : A → List ℤ) where
-  -- no key stands twice
-  abbrev pub Differ : List A → Type 0
-  Differ [] = Unit {0}
-  Differ (x ∷ xs) = ((y : A) → In y xs → key x ≡ key y → ⊥) × Differ xs
-
-  put_length_by : (o : Ordering) (e x : A) (xs rest : List A) → (o ≡ Equal → ⊥) → length rest ≡ suc (length xs) → length (put_by o e x xs rest) ≡ suc (suc (length xs))
-  put_length_by Less e x xs rest n h = refl
-  put_length_by Equal e x xs rest n h = absurd (n refl)
-  put_length_by Greater e x xs rest n h = ap suc h
-
-  put_length : (e : A) (xs : List A) → ((y : A) → In y xs → key e ≡ key y → ⊥) → length (put key e xs) ≡ suc (length xs)
-  put_length e [] n = refl
-  put_length e (x ∷ xs) n =
-      put_length_by (slice_cmp int_cmp (key e) (key x)) e x xs (put key e xs)
-      (λ o. n x (inl refl) (slice_cmp-IsAntisymmetric int_cmp-IsAntisymmetric (key e) (key x) o)) (put_length e xs (λ y i. n y (inr i)))
-
-  pub ordered_length : (xs : List A) → Differ xs → length (ordered key xs) ≡ length xs
-  ordered_length [] d = refl
-  ordered_length (x ∷ xs) d = put_length x (ordered key xs) (λ y i. d.0 y (from_order key xs y i)) ∙ ap suc (ordered_length xs d.1)
-
-  pub differ_both : (xs ys : List A) → Differ xs → Differ ys → ((x y : A) → In x xs → In y ys → key x ≡ key y → ⊥) → Differ (xs ++ ys)
-  differ_both [] ys a b h = b
-  differ_both (x ∷ xs) ys a b h = (
-    (λ z i. elim (in_append xs ys z i) as (λ _. key x ≡ key z → ⊥) [ inl j ↦ a.0 z j | inr j ↦ h x z (inl refl) j ]),
-    differ_both xs ys a.1 b (λ y z i j. h y z (inr i) j),
-  )
-
-  pub ascending_differ : (xs : List A) → IsAscending key xs → Differ xs
-  ascending_differ [] a = tt
-  ascending_differ (x ∷ xs) a =
-      ((λ y i e. never (key x) (key y) (at_each (λ z. slice_cmp int_cmp (key x) (key z) ≡ Less) xs a.0 y i) e), ascending_differ xs a.1)
-
-elements_differ : (ps : List Piece) → AreApart ps → Differ (λ e. e.vector) (flat_map elements ps)
-elements_differ [] a = tt
-elements_differ (p ∷ ps) a =
-    differ_both (λ e. e.vector) (elements p) (flat_map elements ps) (ascending_differ (λ e. e.vector) (elements p) (elements_ascend p a.0)) (elements_differ ps a.3)
-    (λ x y i j v.
-    let u = in_map (element_at p) (instances p) x i in
-    let s = in_stands ps y j in
-    let here : places x.vector ≡ places_of p = ap (λ z. places z.vector) (sym u.1.1) ∙ element_places p u.0 a.0 u.1.0 in
-    let there = stands_places ps y a.3 s in
-    never (places_of p) (places_of s.piece) (later_in (places_of p) ps s.piece a.2 s.is_piece) (sym here ∙ ap places v ∙ there))
-
 each_length : (ps : List Piece) → sum_by (λ p. length (elements p)) ps ≡ sum_by (λ p. length (instances p)) ps
 each_length [] = refl
 each_length (p ∷ ps) =
@@ -172,7 +151,7 @@ each_length (p ∷ ps) =
 pub list_length : (ps : List Piece) (counts : List ℕ) → AreApart ps → counts ≡ map (λ p. length (instances p)) ps → sum counts ≡ length (listed ps)
 list_length ps counts a e =
     ap sum e ∙ sum-map (λ p. length (instances p)) ps ∙ sym (each_length ps) ∙ sym (length-flat_map elements ps)
-    ∙ sym (ordered_length (λ e. e.vector) (flat_map elements ps) (elements_differ ps a))
+    ∙ sym (ordered_length (λ e. e.vector) (flat_map elements ps))
 
 some_length : {X : Type 0} (xs : List X) → xs ≢ [] → 1 ≤ length xs
 some_length [] h = absurd (h refl)

@@ -14,13 +14,14 @@ use Rattle.ch_affine.specs.Rows.{lies_in}
 use Rattle.ch_affine.specs.declared.system.Range.{Range}
 use Rattle.ch_nest.proofs.Corners.{LiesFirst, lies_first}
 use Rattle.ch_nest.proofs.Places.{plain_sub}
+use Rattle.ch_nest.specs.Arrays.{extents_of}
 use Rattle.ch_nest.specs.At.{IsAt}
 use Rattle.ch_nest.specs.Limits.{deepest, most_affine}
 use Rattle.ch_nest.specs.declared.nest.Access.{Access}
 use Rattle.ch_nest.specs.declared.nest.ArrayDecl.{ArrayDecl}
 use Rattle.ch_nest.specs.declared.nest.Body.{Body}
 use Rattle.ch_nest.specs.declared.nest.Item.{Item}
-use Rattle.ch_nest.specs.declared.nest.Item.TheVariants.{Loop, Assign, rolls-Loop, rolls-Assign}
+use Rattle.ch_nest.specs.declared.nest.Item.TheVariants.{Loop, If, Assign, rolls-Loop, rolls-If, rolls-Assign}
 use Rattle.ch_nest.specs.declared.nest.Item.TheFolds.{fold-roll-Item}
 use Rattle.ch_nest.specs.declared.nest.Sub.{Sub}
 use Rattle.ch_nest.specs.Run.{sub_value}
@@ -35,15 +36,22 @@ use Rattle.ch_timed.specs.Members.{Each}
 
 -- the numbers of accesses
 
-pub loop_bodies : (lows highs : List Form) (items : List Item) → bodies_of (Loop lows highs items) ≡ bodies items
-loop_bodies lows highs items = ap bodies_of (sym (rolls-Loop lows highs items)) ∙ fold-roll-Item (List Body) bodies_step _
+pub loop_bodies : (lows highs : List Form) (step : ℕ) (items : List Item) → bodies_of (Loop lows highs step items) ≡ bodies items
+loop_bodies lows highs step items = ap bodies_of (sym (rolls-Loop lows highs step items)) ∙ fold-roll-Item (List Body) bodies_step _
+
+pub if_bodies : (row : Form) (items : List Item) → bodies_of (If row items) ≡ bodies items
+if_bodies row items = ap bodies_of (sym (rolls-If row items)) ∙ fold-roll-Item (List Body) bodies_step _
 
 pub assign_bodies : (label : ℕ) (body : Body) → bodies_of (Assign label body) ≡ body ∷ []
 assign_bodies label body = ap bodies_of (sym (rolls-Assign label body)) ∙ fold-roll-Item (List Body) bodies_step _
 
-pub counts_loop : (item : Item) (lows highs : List Form) (items : List Item) (counts next : List ℕ) → item ≡ Loop lows highs items
+pub counts_loop : (item : Item) (lows highs : List Form) (step : ℕ) (items : List Item) (counts next : List ℕ) → item ≡ Loop lows highs step items
     → next ≡ counts ++ map access_count (bodies items) → next ≡ counts ++ map access_count (bodies_of item)
-counts_loop item lows highs items counts next is h = rw (is, loop_bodies lows highs items) h
+counts_loop item lows highs step items counts next is h = rw (is, loop_bodies lows highs step items) h
+
+pub counts_if : (item : Item) (row : Form) (items : List Item) (counts next : List ℕ) → item ≡ If row items
+    → next ≡ counts ++ map access_count (bodies items) → next ≡ counts ++ map access_count (bodies_of item)
+counts_if item row items counts next is h = rw (is, if_bodies row items) h
 
 pub counts_assign : (item : Item) (label : ℕ) (body : Body) (counts next : List ℕ) (n : ℕ) → item ≡ Assign label body → n ≡ access_count body
     → next ≡ counts ++ n ∷ [] → next ≡ counts ++ map access_count (bodies_of item)
@@ -137,13 +145,13 @@ pub access_at : (arrays : List ArrayDecl) (n : ℕ) (listed : List Access) (k : 
 access_at arrays n listed k d l h = list_all_at (access_fits arrays n) listed k d l h
 
 pub leaving_goes_on : (arrays : List ArrayDecl) (point : List ℤ) (listed : List Access) (k here : ℕ) (d : Access) (total : Option Leaving) → k < length listed
-    → access_inside arrays point (get_or listed k d) ≡ true → first_leaving arrays point here (drop k listed) ≡ total
-    → first_leaving arrays point (here + 1) (drop (k + 1) listed) ≡ total
+    → access_inside (extents_of arrays) point (get_or listed k d) ≡ true → first_leaving (extents_of arrays) point here (drop k listed) ≡ total
+    → first_leaving (extents_of arrays) point (here + 1) (drop (k + 1) listed) ≡ total
 leaving_goes_on arrays point listed k here d total l i h =
     let a = rw (drop_more listed k d l, i) at h in rw add-one a
 
 pub leaving_here : (arrays : List ArrayDecl) (point : List ℤ) (listed : List Access) (k here : ℕ) (d : Access) (total : Option Leaving) → k < length listed
-    → access_inside arrays point (get_or listed k d) ≡ false → first_leaving arrays point here (drop k listed) ≡ total
+    → access_inside (extents_of arrays) point (get_or listed k d) ≡ false → first_leaving (extents_of arrays) point here (drop k listed) ≡ total
     → Some (record { access = here; cell = cell_of point (get_or listed k d) }) ≡ total
 leaving_here arrays point listed k here d total l i h = let a = rw (drop_more listed k d l, i) at h in a
 

@@ -2,11 +2,11 @@
 use Rattle.std.specs.Prelude.{◌≡◌, ℕ, suc, ℤ, Bool, true, false, nat_lt, Option, Some, None, Result, Ok, Err, List, [], ◌∷◌, ◌++◌, length, map, take, if◌then◌else◌}
 use Rattle.std.specs.List.{sum}
 use Rattle.ch_nest.specs.declared.nest.Access.{Access}
-use Rattle.ch_nest.specs.declared.nest.ArrayDecl.{ArrayDecl}
 use Rattle.ch_nest.specs.declared.nest.Body.{Body}
 use Rattle.ch_nest.specs.declared.nest.Item.{Item}
 use Rattle.ch_nest.specs.declared.nest.Item.TheOpen.{Item-F}
 use Rattle.ch_nest.specs.declared.nest.Item.TheFolds.{fold-Item}
+use Rattle.ch_nest.specs.Arrays.{extents_of}
 use Rattle.ch_nest.specs.Limits.{most_work}
 use Rattle.ch_nest.specs.LoopNest.{LoopNest}
 use Rattle.ch_nest.specs.Sound.{access_inside, items_work}
@@ -33,7 +33,8 @@ joined [] = []
 joined (bs ∷ more) = bs ++ joined more
 
 abbrev pub bodies_step : Item-F (List Body) → List Body
-bodies_step (Item-F.Loop lows highs items) = joined items
+bodies_step (Item-F.Loop lows highs step items) = joined items
+bodies_step (Item-F.If row items) = joined items
 bodies_step (Item-F.Assign label body) = body ∷ []
 
 abbrev pub bodies_of : Item → List Body
@@ -53,11 +54,11 @@ leaving_if true k cell more = more
 leaving_if false k cell more = Some (record { access = k; cell = cell })
 
 -- the first of these accesses that leaves its array, where the first has number k
-abbrev pub first_leaving : List ArrayDecl → List ℤ → ℕ → List Access → Option Leaving
-first_leaving arrays iters k [] = None
-first_leaving arrays iters k (a ∷ more) =
-    leaving_if (access_inside arrays iters a) k (cell_of iters a)
-    (first_leaving arrays iters (suc k) more)
+abbrev pub first_leaving : List (List ℕ) → List ℤ → ℕ → List Access → Option Leaving
+first_leaving extents iters k [] = None
+first_leaving extents iters k (a ∷ more) =
+    leaving_if (access_inside extents iters a) k (cell_of iters a)
+    (first_leaving extents iters (suc k) more)
 
 abbrev pub out_of_range : Identity → Option Leaving → Option SpaceError
 out_of_range first None = None
@@ -67,7 +68,7 @@ out_of_range first (Some l) = Some (OutOfRange first l.access l.cell)
 abbrev pub leaving : LoopNest → Element → Option SpaceError
 leaving nest e =
     out_of_range e.identity
-    (first_leaving nest.arrays e.identity.iters (accesses_before nest.items e.identity.label)
+    (first_leaving (extents_of nest.arrays) e.identity.iters (accesses_before nest.items e.identity.label)
     (text_accesses e.body))
 
 abbrev pub or_else : Option SpaceError → Option SpaceError → Option SpaceError

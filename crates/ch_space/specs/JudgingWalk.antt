@@ -1,5 +1,5 @@
 -- The walk that judges a nest: the refusal of the first instance below some items at a point, and what is left of the turns.
-use Rattle.std.specs.Prelude.{◌≡◌, ◌<◌, ◌≤◌, ◌^◌, ℕ, zero, suc, ◌+◌, ℤ, pos, ◌+ℤ◌, Option, None, Result, Ok, Err, List, [], ◌∷◌, ◌++◌, length, map}
+use Rattle.std.specs.Prelude.{◌≡◌, ◌<◌, ◌≤◌, ◌^◌, ℕ, ◌+◌, ℤ, if◌then◌else◌, Option, None, Result, Ok, Err, List, [], ◌∷◌, ◌++◌, length, map}
 use Rattle.std.specs.List.{All}
 use Rattle.ch_affine.specs.Affine.{IsAtMost}
 use Rattle.ch_nest.specs.declared.nest.Body.{Body}
@@ -8,7 +8,7 @@ use Rattle.ch_nest.specs.declared.nest.Item.TheOpen.{Item-F}
 use Rattle.ch_nest.specs.declared.nest.Item.TheFolds.{fold-Item}
 use Rattle.ch_nest.specs.Limits.{deepest}
 use Rattle.ch_nest.specs.LoopNest.{LoopNest}
-use Rattle.ch_nest.specs.Run.{count, low_of, high_of}
+use Rattle.ch_nest.specs.Run.{is_met, values_at}
 use Rattle.ch_space.specs.declared.error.SpaceError.{SpaceError}
 use Rattle.ch_space.specs.declared.error.SpaceError.TheVariants.{TooMany, OutOfRange, Memory}
 use Rattle.ch_space.specs.declared.judge.Walk.{Walk}
@@ -29,10 +29,10 @@ abbrev pub first_at : List Search → Search
 first_at [] point = None
 first_at (f ∷ fs) point = or_else (f point) (first_at fs point)
 
--- the refusal of the first of n turns that has one
-abbrev pub first_turn : ℕ → ℤ → (ℤ → Option SpaceError) → Option SpaceError
-first_turn zero low turn = None
-first_turn (suc n) low turn = or_else (first_turn n low turn) (turn (low +ℤ pos n))
+-- the refusal of the first of some values that has one
+abbrev pub first_value : List ℤ → (ℤ → Option SpaceError) → Option SpaceError
+first_value [] turn = None
+first_value (x ∷ xs) turn = or_else (turn x) (first_value xs turn)
 
 -- the instance of a statement at a point; its vector plays no part
 abbrev pub instance : ℕ → List ℤ → Body → Element
@@ -43,9 +43,10 @@ instance label point body = record {
 }
 
 abbrev pub refusal_step : LoopNest → Item-F Search → Search
-refusal_step nest (Item-F.Loop lows highs items) point =
-    first_turn (count (low_of lows point) (high_of highs point)) (low_of lows point)
-    (λ i. first_at items (point ++ i ∷ []))
+refusal_step nest (Item-F.Loop lows highs step items) point =
+    first_value (values_at lows highs step point) (λ i. first_at items (point ++ i ∷ []))
+refusal_step nest (Item-F.If row items) point =
+    if is_met row point then first_at items point else None
 refusal_step nest (Item-F.Assign label body) point =
     leaving nest (instance label point body)
 

@@ -1,5 +1,5 @@
 -- What the type of a space keeps.
-use Rattle.std.specs.Prelude.{◌≡◌, ◌≢◌, ℕ, ℤ, pos, ◌+◌, ◌-◌, ◌*◌, ◌<◌, ◌≤◌, ◌^◌, Bool, true, ◌&&◌, nat_lt, IsTrue, List, [], ◌∷◌, ◌++◌, length, map, take}
+use Rattle.std.specs.Prelude.{◌≡◌, ◌≢◌, ℕ, ℤ, pos, ◌+◌, ◌*◌, ◌<◌, ◌≤◌, ◌^◌, Bool, true, ◌&&◌, nat_lt, IsTrue, List, [], ◌∷◌, ◌++◌, length, map, take}
 use Rattle.std.specs.List.{All, flat_map, sum}
 use Rattle.std.specs.Ordering.{int_cmp}
 use Rattle.std.specs.declared.cmp.Ordering.TheVariants.{Less}
@@ -39,10 +39,11 @@ most_commands = 32
 abbrev pub most_weight : ℕ
 most_weight = 2 ^ 20
 
--- The most variables of a piece's system after so many commands. A nest has at most 6 levels; a command adds at most one level and
--- the values of the levels before it, or, for a move, those of the iterators and a level for each dimension of the array.
+-- The most variables of a piece's system after so many commands. A nest has at most 6 levels, and a hidden value for each of them
+-- that a loop steps through; a command adds at most one level and the values of the levels before it, or, for a move, those of the
+-- iterators and a level for each dimension of the array.
 abbrev pub most_variables : ℕ → ℕ
-most_variables commands = 6 + 16 * commands
+most_variables commands = 12 + 16 * commands
 
 -- The greatest magnitude of a level's value. The iterators of a nest have magnitude at most 2^30; a command moves a value by at
 -- most 2^20, or multiplies it by no more than it multiplies the weight.
@@ -123,9 +124,9 @@ pub record IsLimited (weight commands : ℕ) (p : Piece) : Type 0 where
 abbrev pub IsWrapped : List ℤ → Sub → Type 0
 IsWrapped iters s = (s.modulus ≢ 0) → IsAtMost (2 ^ 54) (value s.form iters)
 
--- the value of a subscript's form fits a word
+-- the value of a subscript's form lies within the most cells of an array
 abbrev pub IsReached : List ℤ → Sub → Type 0
-IsReached iters s = IsAtMost (2 ^ 63 - 1) (value s.form iters)
+IsReached iters s = IsAtMost (2 ^ 18) (value s.form iters)
 
 abbrev pub IsMoveBelow : ℕ → Label → Type 0
 IsMoveBelow n (Stmt k) = Unit {0}

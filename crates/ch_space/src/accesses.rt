@@ -1,6 +1,7 @@
 ghost use Rattle.std.specs.Prelude.{◌≡◌, ◌^◌, ◌<◌, ◌+◌, length, map, ◌++◌, ◌∷◌, [], take, IsTrue, IfOk, OnOk, Option, Some, None};
 ghost use Rattle.std.specs.List.{All, list_all, sum};
 ghost use Rattle.ch_affine.specs.Affine.{IsAtMost};
+ghost use Rattle.ch_nest.specs.Arrays.{extents_of};
 ghost use Rattle.ch_nest.specs.Run.{sub_value};
 ghost use Rattle.ch_nest.specs.Shape.{access_fits, body_fits, sub_fits};
 ghost use Rattle.ch_space.specs.Judged.{access_count, accesses_before, bodies, bodies_of, first_leaving, text_accesses};
@@ -66,13 +67,14 @@ fn push_counts(alloc: Global, items: &[Item], counts: &mut List<usize>) -> Resul
 }
 
 #[cycle(counts)]
-#[tactic(auto, using(crate::proofs::Subscripted::counts_loop, crate::proofs::Subscripted::counts_assign))]
+#[tactic(auto, using(crate::proofs::Subscripted::counts_loop, crate::proofs::Subscripted::counts_if, crate::proofs::Subscripted::counts_assign))]
 fn push_item_counts(alloc: Global, item: &Item, counts: &mut List<usize>) -> Result<(), AllocError>
     ensures { OnOk result (counts.new ≡ counts.old ++ map access_count (bodies_of item.now)) }
 {
     match item {
         Item::Assign { body, .. } => counts.push(access_count(alloc, body)?),
         Item::Loop { items, .. } => push_counts(alloc, items.as_slice(), counts),
+        Item::If { items, .. } => push_counts(alloc, items.as_slice(), counts),
     }
 }
 
@@ -150,7 +152,7 @@ pub(crate) fn first_leaving(
     requires near { IsNear point.now }
     requires few { before + access_count body.now < 2 ^ 32 }
     ensures { IfOk result (λ leaving.
-        leaving ≡ first_leaving arrays.now point.now before (text_accesses body.now)) }
+        leaving ≡ first_leaving (extents_of arrays.now) point.now before (text_accesses body.now)) }
 {
     let accesses = text_accesses(alloc, body)?;
     leaving_from(alloc, arrays, accesses.as_slice(), point, before)
@@ -169,7 +171,7 @@ fn leaving_from(
     requires near { IsNear point.now }
     requires few { number + length accesses.now < 2 ^ 32 }
     ensures { IfOk result (λ leaving.
-        leaving ≡ first_leaving arrays.now point.now number accesses.now) }
+        leaving ≡ first_leaving (extents_of arrays.now) point.now number accesses.now) }
 {
     let mut here = number;
     for access in accesses {

@@ -13,8 +13,8 @@ use crate::accesses::{accesses_before, first_leaving};
 use crate::error::SpaceError;
 use ch_affine::List;
 use ch_nest::{
-    Body, Item, Nest, body_inside, extended, greatest_low, is_sound, least_high, nth_value,
-    turns_of,
+    Body, Item, Nest, as_number, body_inside, extended, greatest_low, is_met, is_sound, least_high,
+    next_value,
 };
 use ch_timed::{Identity, Label};
 use std::alloc::{AllocError, Global};
@@ -148,13 +148,17 @@ fn walk_item(
 {
     match item {
         Item::Assign { label, body } => walk_instance(alloc, nest, *label, body, point, walk),
-        Item::Loop { lows, highs, items } => {
-            let low = greatest_low(lows.as_slice(), point);
+        Item::Loop {
+            lows,
+            highs,
+            step,
+            items,
+        } => {
+            let mut value = greatest_low(lows.as_slice(), point);
             let high = least_high(highs.as_slice(), point);
-            let turns = turns_of(low, high);
             let mut walk = walk;
-            for k in 0..turns {
-                let inner = extended(point, nth_value(low, high, k));
+            'turns: while value <= high {
+                let inner = extended(point, as_number(value));
                 let turn = turned(walk)?;
                 walk = walk_items(
                     alloc,
@@ -163,8 +167,16 @@ fn walk_item(
                     &inner[..point.len() + 1],
                     turn,
                 )?;
+                value = next_value(value, *step);
             }
             Ok(walk)
+        }
+        // A condition takes no turn of its own.
+        Item::If { row, items } => {
+            if !is_met(row, point) {
+                return Ok(walk);
+            }
+            walk_items(alloc, nest, items.as_slice(), point, walk)
         }
     }
 }

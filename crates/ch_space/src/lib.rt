@@ -3,15 +3,11 @@
 
 mod accesses;
 mod after;
-#[cfg(test)]
-mod after_tests;
 mod closing;
 pub mod copies;
 mod error;
 mod extremes;
 mod judge;
-#[cfg(test)]
-mod judge_tests;
 mod level;
 mod nest_pieces;
 mod nest_space;
@@ -19,8 +15,6 @@ mod nest_space;
 mod nest_space_tests;
 mod piece;
 mod reading;
-#[cfg(test)]
-mod reading_tests;
 mod rows;
 mod space;
 mod turns;

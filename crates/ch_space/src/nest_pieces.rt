@@ -1,13 +1,13 @@
-ghost use Rattle.std.specs.Prelude.{◌≡◌, ◌≤◌, ◌+◌, [], ◌∷◌, ◌++◌, length, map, IfOk, OnOk};
+ghost use Rattle.std.specs.Prelude.{◌≡◌, ◌≤◌, ◌+◌, [], ◌∷◌, ◌++◌, length, IfOk, OnOk};
 ghost use Rattle.ch_nest.specs.Limits.{deepest};
 ghost use Rattle.ch_space.specs.Built.{piece_of};
-ghost use Rattle.ch_space.specs.Fitting.{capped, Adds, AreBelow, IsBelow, LevelsFit};
-ghost use Rattle.ch_space.specs.Statements.{at_numbers, instances_of, statement, statements_of};
+ghost use Rattle.ch_space.specs.Fitting.{capped, Adds, AreBelow, IsBelow, LevelsFit, Places};
+ghost use Rattle.ch_space.specs.Statements.{at_numbers, findings, findings_of, instances_of, loops, statement};
 
 use crate::copies::copied_body;
-use crate::level::{Level, levels_inside, places_inside};
+use crate::level::{Around, inside_condition, inside_loop, loops_in, places_inside};
 use crate::piece::Piece;
-use crate::rows::{boxes_of, rows_of, units};
+use crate::rows::{boxes_of, hidden_in, rows_of, units};
 use crate::turns::turns_up_to;
 use ch_affine::{List, System};
 use ch_nest::{Body, Item};
@@ -21,32 +21,33 @@ pub(crate) struct Found {
     pub(crate) counts: List<u64>,
 }
 
-/// The piece of a statement below these loops.
+/// The piece of a statement: its levels are the values of its loops, and each loop with a step above 1 has a hidden value.
 fn piece_of(
     alloc: Global,
     label: u32,
     body: &Body,
-    levels: &[Level],
+    around: &[Around],
     places: &[u32],
 ) -> Result<Piece, AllocError>
-    requires fit { LevelsFit [] levels.now }
-    requires few { length levels.now ≤ deepest }
+    requires fit { LevelsFit [] around.now }
+    requires few { loops around.now ≤ deepest }
     ensures { IfOk result (λ piece.
-        piece ≡ piece_of (statement label body.now levels.now places.now)) }
+        piece ≡ piece_of (statement label body.now around.now places.now)) }
 {
-    let rows = rows_of(alloc, levels)?;
-    let boxes = boxes_of(alloc, levels)?;
-    let origin = units(alloc, levels.len())?;
+    let levels = loops_in(around);
+    let hidden = hidden_in(around);
+    let rows = rows_of(alloc, around, levels, levels + hidden)?;
+    let boxes = boxes_of(alloc, around)?;
+    let origin = units(alloc, levels)?;
     let body = copied_body(alloc, body)?;
     let places = List::from_slice(alloc, places)?;
-    let levels = levels.len() as u32;
     Ok(Piece {
         label: Label::Stmt(label),
         body,
-        levels,
-        hidden: 0,
+        levels: levels as u32,
+        hidden: hidden as u32,
         system: System {
-            vars: levels,
+            vars: (levels + hidden) as u32,
             rows,
             boxes,
         },
@@ -61,66 +62,97 @@ fn add_statement(
     alloc: Global,
     label: u32,
     body: &Body,
-    levels: &[Level],
+    around: &[Around],
     places: &[u32],
     found: &mut Found,
 ) -> Result<(), AllocError>
-    requires fit { LevelsFit [] levels.now }
-    requires few { length levels.now ≤ deepest }
+    requires fit { LevelsFit [] around.now }
+    requires few { loops around.now ≤ deepest }
     ensures { OnOk result
-        (Adds (statement label body.now levels.now places.now ∷ []) found.old found.new) }
+        (Adds (statement label body.now around.now places.now ∷ []) found.old found.new) }
 {
-    let count = turns_up_to(levels, &[]);
+    let count = turns_up_to(around, &[]);
     if count == 0 {
         return Ok(());
     }
-    let piece = piece_of(alloc, label, body, levels, places)?;
+    let piece = piece_of(alloc, label, body, around, places)?;
     found.pieces.push(piece)?;
     found.counts.push(count)?;
     Ok(())
 }
 
-/// Adds the pieces of the statements of the items of a body.
+/// Adds the pieces of the statements of the items of a body, which stand at its places from `first` on, and gives the place
+/// after them.
 #[cycle(find)]
-#[tactic(auto, using(crate::proofs::FindSteps::adds_none, crate::proofs::FindSteps::places_fit))]
+#[tactic(auto, using(crate::proofs::FindSteps::places_none, crate::proofs::FindSteps::places_done))]
 pub(crate) fn find_items(
     alloc: Global,
     items: &[Item],
-    levels: &[Level],
+    around: &[Around],
     places: &[u32],
+    first: u32,
     found: &mut Found,
-) -> Result<(), AllocError>
-    requires below { AreBelow items.now levels.now }
-    ensures { OnOk result (Adds
-        (at_numbers 0 (map statements_of items.now) levels.now places.now) found.old found.new) }
+) -> Result<u32, AllocError>
+    requires below { AreBelow items.now around.now first }
+    ensures { IfOk result (λ next. Places (findings items.now) around.now places.now first next
+        found.old found.new) }
 {
-    for k in 0..items.len() {
-        let places_here = places_inside(alloc, places, k as u32)?;
-        find_item(alloc, &items[k], levels, places_here.as_slice(), found)?;
+    let mut place = first;
+    for item in items {
+        place = find_item(alloc, item, around, places, place, found)?;
     }
-    Ok(())
+    Ok(place)
 }
 
 #[cycle(find)]
-#[tactic(auto, using(crate::proofs::FindSteps::adds_assign, crate::proofs::FindSteps::adds_loop))]
+#[tactic(auto, using(crate::proofs::FindSteps::places_assign, crate::proofs::FindSteps::places_loop, crate::proofs::FindSteps::places_if))]
 fn find_item(
     alloc: Global,
     item: &Item,
-    levels: &[Level],
+    around: &[Around],
     places: &[u32],
+    place: u32,
     found: &mut Found,
-) -> Result<(), AllocError>
-    requires below { IsBelow item.now levels.now }
-    ensures { OnOk result
-        (Adds (statements_of item.now levels.now places.now) found.old found.new) }
+) -> Result<u32, AllocError>
+    requires below { IsBelow item.now around.now place }
+    ensures { IfOk result (λ next. Places (findings_of item.now) around.now places.now place next
+        found.old found.new) }
 {
     match item {
         Item::Assign { label, body } => {
-            add_statement(alloc, *label, body, levels, places, found)
+            let here = places_inside(alloc, places, place)?;
+            add_statement(alloc, *label, body, around, here.as_slice(), found)?;
+            Ok(place + 1)
         }
-        Item::Loop { lows, highs, items } => {
-            let inside = levels_inside(alloc, levels, lows.as_slice(), highs.as_slice())?;
-            find_items(alloc, items.as_slice(), inside.as_slice(), places, found)
+        Item::Loop {
+            lows,
+            highs,
+            step,
+            items,
+        } => {
+            let here = places_inside(alloc, places, place)?;
+            let inside = inside_loop(alloc, around, lows.as_slice(), highs.as_slice(), *step)?;
+            find_items(
+                alloc,
+                items.as_slice(),
+                inside.as_slice(),
+                here.as_slice(),
+                0,
+                found,
+            )?;
+            Ok(place + 1)
+        }
+        // Its items stand in its place, in order.
+        Item::If { row, items } => {
+            let inside = inside_condition(alloc, around, row)?;
+            find_items(
+                alloc,
+                items.as_slice(),
+                inside.as_slice(),
+                places,
+                place,
+                found,
+            )
         }
     }
 }

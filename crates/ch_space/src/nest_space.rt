@@ -1,7 +1,6 @@
-ghost use Rattle.std.specs.Prelude.{◌≡◌, ◌≤◌, [], length, IfOk};
+ghost use Rattle.std.specs.Prelude.{◌≡◌, [], length, IsTrue, IfOk};
 ghost use Rattle.ch_space.specs.Judged.{judgement, Judges};
-ghost use Rattle.ch_nest.specs.Limits.{most_work};
-ghost use Rattle.ch_nest.specs.Sound.{items_work};
+ghost use Rattle.ch_nest.specs.Sound.{is_sound};
 ghost use Rattle.ch_timed.specs.Start.{start};
 
 use crate::error::SpaceError;
@@ -12,9 +11,9 @@ use ch_affine::List;
 use ch_nest::Nest;
 use std::alloc::{AllocError, Global};
 
-/// The space of a nest that does not take too many turns.
+/// The space of a nest that can be run.
 pub fn space_of(alloc: Global, nest: &Nest) -> Result<Space, AllocError>
-    requires few { items_work nest.now.items [] ≤ most_work }
+    requires sound { IsTrue (is_sound nest.now) }
     ensures { IfOk result (λ space. space ≡ record {
       list = start nest.now;
       arrays = length nest.now.arrays;
@@ -27,7 +26,7 @@ pub fn space_of(alloc: Global, nest: &Nest) -> Result<Space, AllocError>
         pieces: List::new(alloc),
         counts: List::new(alloc),
     };
-    find_items(alloc, nest.items.as_slice(), &[], &[], &mut found)?;
+    find_items(alloc, nest.items.as_slice(), &[], &[], 0, &mut found)?;
     let Found { pieces, counts } = found;
     Ok(Space {
         arrays: nest.arrays.len() as u32,
@@ -39,7 +38,9 @@ pub fn space_of(alloc: Global, nest: &Nest) -> Result<Space, AllocError>
     })
 }
 
-/// The space of a nest: its timed list, with a piece for each statement that has an instance, and no buffers. A nest that takes
+/// The space of a nest: its timed list, with a piece for each statement that has an instance, and no buffers. The levels of a
+/// piece are the values of its loops; a loop with a step above 1 gives its system a hidden variable, which counts the steps, and a
+/// condition gives it a row. A nest that takes
 /// more than 1,048,576 turns and instances is refused; otherwise one with an access that leaves its array is, for the first
 /// such instance in program order and its first such access.
 ///

@@ -1,6 +1,6 @@
 //! Small nests and their spaces.
 
-use crate::{Space, SpaceError, count, of_nest, piece_count, pieces};
+use crate::{Space, SpaceError, count, of_nest, piece_count, pieces, places};
 use ch_affine::{Aff, List, Text};
 use ch_nest::{Access, ArrayDecl, Body, Expr, Item, Nest, Sub};
 use ch_timed::Label;
@@ -25,10 +25,25 @@ fn access(alloc: Global, coefs: &[i64], constant: i64) -> Result<Access, Fail> {
     Ok(Access { array: 0, subs })
 }
 
-fn loop_of(alloc: Global, low: Aff, high: Aff, items: List<Item>) -> Result<Item, AllocError> {
+fn steps_of(
+    alloc: Global,
+    low: Aff,
+    high: Aff,
+    step: u32,
+    items: List<Item>,
+) -> Result<Item, AllocError> {
     let lows = one(alloc, low)?;
     let highs = one(alloc, high)?;
-    Ok(Item::Loop { lows, highs, items })
+    Ok(Item::Loop {
+        lows,
+        highs,
+        step,
+        items,
+    })
+}
+
+fn loop_of(alloc: Global, low: Aff, high: Aff, items: List<Item>) -> Result<Item, AllocError> {
+    steps_of(alloc, low, high, 1, items)
 }
 
 /// `A[i] = 1`
@@ -103,36 +118,68 @@ fn no_piece_without_an_instance(rt: HostRuntime) -> Result<(), Fail> {
     Ok(())
 }
 
-/// The statement, the values of i and j, the number of the access, and the subscript of its cell.
-fn leaving(refused: Result<Space, SpaceError>) -> Option<(Label, i64, i64, u32, i64)> {
-    match refused {
-        Err(
-            SpaceError::OutOfRange {
-                first,
-                access,
-                cell,
-            },
-        ) => match (first.iters.as_slice(), cell.subs.as_slice()) {
-            ([i, j], [sub]) => Some((first.label, *i, *j, access, *sub)),
-            _ => None,
-        },
-        Err(_refusal) => None,
-        Ok(_space) => None,
-    }
+/// `A[i] = label`
+fn labelled(alloc: Global, label: u32) -> Result<Item, Fail> {
+    let write = access(alloc, &[1], 0)?;
+    let right = Expr::Number(i64::from(label));
+    let body = Body { write, right };
+    Ok(Item::Assign { label, body })
+}
+
+/// `for (i = first; i < end; i = i + 3)`, in an array of eight cells: an assignment, two more where `2*i >= 3`, and a fourth.
+fn stepped(alloc: Global, first: i64, end: i64) -> Result<Nest, Fail> {
+    let row = form(alloc, &[2], -3)?;
+    let inner = both(alloc, labelled(alloc, 1)?, labelled(alloc, 2)?)?;
+    let mut items = both(alloc, labelled(alloc, 0)?, Item::If { row, items: inner })?;
+    items.push(labelled(alloc, 3)?)?;
+    let low = form(alloc, &[], first)?;
+    let high = form(alloc, &[], end.saturating_sub(1))?;
+    let items = one(alloc, steps_of(alloc, low, high, 3, items)?)?;
+    let extents = List::from_slice(alloc, &[8])?;
+    let name = Text::new(alloc);
+    let arrays = one(alloc, ArrayDecl { name, extents })?;
+    let nest = Nest::new(arrays, items).ok_or("a nest")?;
+    Ok(nest)
 }
 
 #[test]
-fn the_first_access_that_leaves(rt: HostRuntime) -> Result<(), Fail> {
+fn steps_and_conditions(rt: HostRuntime) -> Result<(), Fail> {
     let alloc = rt.alloc();
-    let refused = of_nest(alloc, &triangle(alloc, 3, 0, 2)?);
-    assert_eq!(rt; leaving(refused), Some((Label::Stmt(1), 1, 1, 1, 3)));
+    let space = of_nest(alloc, &stepped(alloc, 1, 8)?)?;
+    assert_eq!(rt; pieces(&space), 4);
+    assert_eq!(rt; piece_count(&space, 0), 3);
+    assert_eq!(rt; piece_count(&space, 1), 2);
+    assert_eq!(rt; piece_count(&space, 3), 3);
+    // The items of the condition stand in its place.
+    assert_eq!(rt; places(&space, 2), [0, 2].as_slice());
+    assert_eq!(rt; places(&space, 3), [0, 3].as_slice());
     Ok(())
 }
 
 #[test]
-fn too_many_turns_before_a_bad_access(rt: HostRuntime) -> Result<(), Fail> {
+fn a_step_leaves_the_array(rt: HostRuntime) -> Result<(), Fail> {
     let alloc = rt.alloc();
-    let refused = of_nest(alloc, &triangle(alloc, 1100, 0, 2)?);
-    assert!(rt; matches!(refused, Err(SpaceError::TooMany)));
+    let refused = of_nest(alloc, &stepped(alloc, 2, 9)?);
+    assert!(rt; matches!(refused, Err(SpaceError::OutOfRange { access: 0, .. })));
+    Ok(())
+}
+
+#[test]
+fn six_stepped_loops(rt: HostRuntime) -> Result<(), Fail> {
+    let alloc = rt.alloc();
+    let zeros = [0; 6];
+    let write = access(alloc, &zeros, 0)?;
+    let right = Expr::Number(1);
+    let body = Body { write, right };
+    let mut item = Item::Assign { label: 0, body };
+    for depth in 0..6 {
+        let around = &zeros[..5 - depth];
+        let low = form(alloc, around, 1)?;
+        let high = form(alloc, around, 3)?;
+        item = steps_of(alloc, low, high, 2, one(alloc, item)?)?;
+    }
+    let nest = Nest::new(three_cells(alloc)?, one(alloc, item)?).ok_or("a nest")?;
+    let space = of_nest(alloc, &nest)?;
+    assert_eq!(rt; count(&space), 64);
     Ok(())
 }

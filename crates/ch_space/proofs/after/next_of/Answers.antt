@@ -15,7 +15,7 @@ element_after-requires-clause-whole c =
 
 pub element_after-requires-clause-near : goal.element_after-requires-clause-near
 element_after-requires-clause-near c =
-    near_in c.args.pieces.now c.piece-item.result c.requires.apart (item_in c.args.pieces.now c.loop-piece.piece-index c.piece-item.result c.loop-piece-test.true c.piece-item.is) c.requires.near
+    near_in c.args.pieces.now c.piece-item.result (item_in c.args.pieces.now c.loop-piece.piece-index c.piece-item.result c.loop-piece-test.true c.piece-item.is) c.requires.near
 
 pub loop-piece-preserved : goal.loop-piece-preserved
 loop-piece-preserved c =

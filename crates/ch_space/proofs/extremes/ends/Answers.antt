@@ -30,7 +30,7 @@ pub ends_of-requires-clause-near : goal.ends_of-requires-clause-near
 ends_of-requires-clause-near c =
     let i = found_in c.args.space.now.list c.space.inside.pieces c.space.invariant.apart (ap (λ (r : Listed). r.list) c.space.view_is)
     c.as_slice-all.result.now c.args.number c.index-all-number.result c.as_slice-all.ensures c.index-all-number.is c.requires in
-    near_in c.space.inside.pieces c.index-all-number.result c.space.invariant.apart i c.space.invariant.near
+    near_in c.space.inside.pieces c.index-all-number.result i c.space.invariant.near
 
 pub returns-clause-first : goal.returns-clause-first
 returns-clause-first c =

@@ -1,7 +1,7 @@
-use Rattle.std.proofs.Common.{map, take}
-use Rattle.ch_space.specs.Fitting.{Adds}
-use Rattle.ch_space.specs.Statements.{at_numbers, statements_of}
+use Rattle.std.proofs.Common.{take}
+use Rattle.ch_space.specs.Fitting.{Places}
+use Rattle.ch_space.specs.Statements.{findings}
 use Rattle.ch_space.proofs.nest_pieces.+find.Given as goal
 
-abbrev pub invariant-find_items-loop-k : goal.invariant-find_items-loop-k
-invariant-find_items-loop-k l = Adds (at_numbers 0 (map statements_of (take l.k l.items)) l.levels l.places) l.initial.found l.found
+abbrev pub invariant-find_items-loop-item : goal.invariant-find_items-loop-item
+invariant-find_items-loop-item l = Places (findings (take l.item-index l.items)) l.around l.places l.first l.place l.initial.found l.found

@@ -20,13 +20,13 @@ overflow_cast-result c =
 pub invariant_of-result : goal.invariant_of-result
 invariant_of-result c =
     let known : IsTrue (is_nest c.args.nest.now) = subst (λ n. IsTrue (is_nest n)) c.nest.view_is c.nest.invariant in
-    space_kept c.args.nest.now c.len.result c.find_items.new.found c.new-3.result known c.requires.few (c.len.ensures ∙ ap (λ (n : LoopNest). length n.arrays) c.nest.view_is)
-    (all_found c.args.nest.now c.as_slice.result.now _ c.find_items.new.found c.requires.few (c.as_slice.ensures ∙ ap (λ (n : LoopNest). n.items) c.nest.view_is) c.new.ensures c.new-2.ensures c.in_ok-find_items.ensures)
+    space_kept c.args.nest.now c.len.result c.find_items.new.found c.new-3.result known c.requires.sound (c.len.ensures ∙ ap (λ (n : LoopNest). length n.arrays) c.nest.view_is)
+    (all_found c.args.nest.now c.as_slice.result.now _ _ c.find_items.new.found c.requires.sound (c.as_slice.ensures ∙ ap (λ (n : LoopNest). n.items) c.nest.view_is) c.new.ensures c.new-2.ensures c.in_ok-find_items.ensures)
     c.new-3.ensures
 
 pub returns : goal.returns
 returns c =
     let known : IsTrue (is_nest c.args.nest.now) = subst (λ n. IsTrue (is_nest n)) c.nest.view_is c.nest.invariant in
     space_is c.args.nest.now c.len.result c.find_items.new.found c.new-3.result known (c.len.ensures ∙ ap (λ (n : LoopNest). length n.arrays) c.nest.view_is)
-    (all_found c.args.nest.now c.as_slice.result.now _ c.find_items.new.found c.requires.few (c.as_slice.ensures ∙ ap (λ (n : LoopNest). n.items) c.nest.view_is) c.new.ensures c.new-2.ensures c.in_ok-find_items.ensures)
+    (all_found c.args.nest.now c.as_slice.result.now _ _ c.find_items.new.found c.requires.sound (c.as_slice.ensures ∙ ap (λ (n : LoopNest). n.items) c.nest.view_is) c.new.ensures c.new-2.ensures c.in_ok-find_items.ensures)
     c.new-3.ensures

@@ -1,10 +1,15 @@
-use Rattle.ch_space.proofs.Builds.{short_at}
+use Rattle.std.proofs.Common.{arith}
+use Rattle.ch_space.proofs.Builds.{short_at, steps_few, steps_here}
 use Rattle.ch_space.proofs.rows.rows_of.Goals as goal
 
-pub push_low_rows-requires-clause-around : goal.push_low_rows-requires-clause-around
-push_low_rows-requires-clause-around c =
-    rw (c.as_slice.ensures, c.level-item.is) (short_at c.args.levels.now c.loop-level.level-index c.level-item.result c.requires.fit c.loop-level-test.true).lows
+pub push_rows-requires-clause-around : goal.push_rows-requires-clause-around
+push_rows-requires-clause-around c =
+    short_at c.args.around.now c.loop-part.at c.loop-part.part-index c.part-item.result c.part-item.result c.requires.fit
+    (steps_here c.args.around.now c.loop-part.part-index c.loop-part.at c.loop-part.invariant.at) c.loop-part-test.true c.part-item.is
 
-pub push_high_rows-requires-clause-around : goal.push_high_rows-requires-clause-around
-push_high_rows-requires-clause-around c =
-    rw (c.as_slice-in-loop-level.ensures, c.level-item.is) (short_at c.args.levels.now c.loop-level.level-index c.level-item.result c.requires.fit c.loop-level-test.true).highs
+pub push_rows-requires-clause-few : goal.push_rows-requires-clause-few
+push_rows-requires-clause-few c =
+    let a = c.requires.all in
+    let f = c.requires.few in
+    let s = steps_few c.args.around.now in
+    omega arith
