@@ -1,10 +1,9 @@
 -- The unit of the tests is one.
-use Rattle.std.proofs.Common.{◌≡◌, sym, ap, ◌∙◌, subst, ◌^◌, ℕ, ℤ, true, List, []}
+use Rattle.std.proofs.Common.{◌≡◌, sym, ap, ◌∙◌, subst, ◌^◌, ℕ, true, List, []}
 use Rattle.std.specs.List.{All}
 use Rattle.std.proofs.lemmas.List.Elements.{All-nil}
 use Rattle.ch_affine.specs.Affine.{IsAtMost}
 use Rattle.ch_affine.specs.Rows.{Rows, IsSystem}
-use Rattle.ch_timed.specs.declared.element.Element.{Element}
 use Rattle.ch_nest.specs.declared.nest.ArrayDecl.{ArrayDecl}
 use Rattle.ch_code.specs.declared.code.Code.{Code}
 use Rattle.ch_code.specs.declared.code.Code.TheFolds.{fold-roll-Code}

@@ -8,4 +8,5 @@ pub mod ReadHeads
 pub mod ReadLists
 pub mod ReadUnit
 pub mod Rolls
+pub mod Seen
 pub mod Steps

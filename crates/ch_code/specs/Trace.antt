@@ -1,5 +1,5 @@
 -- The elements that a code tree executes, in order.
-use Rattle.std.specs.Prelude.{ℤ, pos, neg_ℤ, Bool, true, false, List, [], ◌∷◌, ◌++◌, map}
+use Rattle.std.specs.Prelude.{ℕ, zero, suc, ℤ, pos, ◌+ℤ◌, neg_ℤ, Bool, true, false, List, [], ◌∷◌, ◌++◌, map}
 use Rattle.std.specs.Int.{int_div_euclid}
 use Rattle.ch_affine.specs.Affine.{value}
 use Rattle.ch_code.specs.declared.code.Bound.{Bound}
@@ -10,7 +10,6 @@ use Rattle.ch_code.specs.UnitParts.{UnitParts}
 use Rattle.ch_nest.specs.Run.{greatest, least, count}
 use Rattle.ch_poly.specs.Points.{begins_some}
 use Rattle.ch_timed.specs.declared.element.Element.{Element}
-use Rattle.ch_timed.specs.Start.{turns_listed}
 use Rattle.ch_timed.specs.Vectors.{woven}
 
 -- where a loop begins: each bound rounded up
@@ -32,6 +31,11 @@ one_by_one (f ∷ fs) xs = f xs ++ one_by_one fs xs
 abbrev pub guarded : Bool → List Element → List Element
 guarded true list = list
 guarded false list = []
+
+-- the first n turns of a loop
+abbrev pub turns_listed : ℕ → ℤ → (ℤ → List Element) → List Element
+turns_listed zero low turn = []
+turns_listed (suc n) low turn = turns_listed n low turn ++ turn (low +ℤ pos n)
 
 abbrev pub trace_step : Code-F Traced → Traced
 trace_step (Code-F.Seq parts) xs = one_by_one parts xs

@@ -1,12 +1,13 @@
 //! The names of a unit's arrays, and which of them are an array's own.
 
-ghost use Rattle.std.specs.Prelude.{◌≡◌, ◌<◌, ◌≤◌, ◌++◌, length, take, OnOk, IfOk};
+ghost use Rattle.std.specs.Prelude.{◌≡◌, ◌++◌, ◌&&◌, length, OnOk, IfOk};
 ghost use Rattle.std.specs.List.{list_all};
-ghost use Rattle.ch_code.specs.BodyText.{array_text, has_other, is_own, is_plain, is_word, other_text, own_flags};
+ghost use Rattle.ch_code.specs.BodyText.{array_text, is_own, is_plain, is_word, other_text, own_flags};
 
 use ch_affine::{List, Text};
 use ch_nest::ArrayDecl;
 use ch_print::{put_buffer, put_number};
+use indexmap::IndexSet;
 use std::alloc::{AllocError, Global};
 use std::marker::Model;
 
@@ -57,37 +58,23 @@ pub(crate) fn is_plain(name: &[u8]) -> bool
     }
 }
 
-fn has_other(name: &[u8], array: &ArrayDecl) -> bool
-    ensures { result ≡ has_other name.now array.now }
+/// Whether a name is plain, where `is_new` says that it names no array before.
+fn is_own_name(name: &[u8], is_new: bool) -> bool
+    ensures { result ≡ (is_plain name.now && is_new) }
 {
-    array.name.as_bytes() != name
+    is_plain(name) && is_new
 }
 
-/// Whether no array before this one has the name.
-fn is_new(arrays: &[ArrayDecl], number: usize, name: &[u8]) -> bool
-    requires { number ≤ length arrays.now }
-    ensures { result ≡ list_all (has_other name.now) (take number arrays.now) }
-{
-    arrays[..number].iter().all(|other| has_other(name, other))
-}
-
-/// Whether the name of the array of this number is plain and names no array before it.
-#[tactic(auto, using(crate::proofs::Steps::nth_name_is))]
-fn has_own(arrays: &[ArrayDecl], number: usize) -> bool
-    requires { number < length arrays.now }
-    ensures { result ≡ is_own arrays.now number }
-{
-    let name = arrays[number].name.as_bytes();
-    is_plain(name) && is_new(arrays, number, name)
-}
-
-#[tactic(auto, using(crate::proofs::Steps::flags_more))]
+/// Whether each array's name is plain and names no array before it. Each name is looked up once.
 fn own_flags(alloc: Global, arrays: &[ArrayDecl]) -> Result<List<bool>, AllocError>
     ensures { IfOk result (λ own. own ≡ own_flags arrays.now (length arrays.now)) }
 {
     let mut own = List::with_capacity(alloc, arrays.len())?;
+    let mut seen: IndexSet<Vec<u8>> = IndexSet::new(alloc);
     for number in 0..arrays.len() {
-        own.push(has_own(arrays, number))?;
+        let name = arrays[number].name.as_bytes();
+        let (_, is_new) = seen.insert_full(Vec::from_slice(alloc, name)?)?;
+        own.push(is_own_name(name, is_new))?;
     }
     Ok(own)
 }

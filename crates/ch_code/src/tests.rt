@@ -50,18 +50,6 @@ fn origin(alloc: Global) -> Result<List<Aff>, Fail> {
     Ok(origin)
 }
 
-fn leaf(alloc: Global) -> Result<Code, Fail> {
-    let places = List::from_slice(alloc, [0, 2].as_slice())?;
-    let origin = origin(alloc)?;
-    let body = body(alloc)?;
-    Ok(Code::Leaf {
-        label: Label::Stmt(3),
-        body,
-        origin,
-        places,
-    })
-}
-
 fn system(alloc: Global) -> Result<System, Fail> {
     let mut rows = List::new(alloc);
     rows.push(form(alloc, [1, 0, -3].as_slice(), 0)?)?;
@@ -72,50 +60,6 @@ fn system(alloc: Global) -> Result<System, Fail> {
     ];
     let boxes = List::from_slice(alloc, ranges.as_slice())?;
     Ok(System::new(3, rows, boxes).ok_or("system")?)
-}
-
-fn guarded(alloc: Global) -> Result<Code, Fail> {
-    let system = system(alloc)?;
-    let inner = Boxed::new(alloc, leaf(alloc)?)?;
-    Ok(Code::Guard { system, inner })
-}
-
-fn sequence(alloc: Global) -> Result<Code, Fail> {
-    let mut parts = List::new(alloc);
-    parts.push(guarded(alloc)?)?;
-    parts.push(leaf(alloc)?)?;
-    Ok(Code::Seq(parts))
-}
-
-fn inner_loop(alloc: Global) -> Result<Code, Fail> {
-    let lows = bounds(alloc, [1].as_slice(), 1, 2)?;
-    let highs = bounds(alloc, [-1].as_slice(), 9, 1)?;
-    let inner = Boxed::new(alloc, sequence(alloc)?)?;
-    Ok(Code::Loop {
-        level: 2,
-        lows,
-        highs,
-        inner,
-    })
-}
-
-fn outer_lows(alloc: Global) -> Result<List<Bound>, Fail> {
-    let mut lows = bounds(alloc, [].as_slice(), 0, 1)?;
-    let form = form(alloc, [].as_slice(), -5)?;
-    lows.push(Bound { form, divisor: 3 })?;
-    Ok(lows)
-}
-
-fn outer_loop(alloc: Global) -> Result<Code, Fail> {
-    let lows = outer_lows(alloc)?;
-    let highs = bounds(alloc, [].as_slice(), 3, 1)?;
-    let inner = Boxed::new(alloc, inner_loop(alloc)?)?;
-    Ok(Code::Loop {
-        level: 1,
-        lows,
-        highs,
-        inner,
-    })
 }
 
 fn arrays(alloc: Global) -> Result<List<ArrayDecl>, Fail> {
@@ -140,17 +84,6 @@ for x1 = max(0, ceil((-5) / 3)) to 3\n\
     \x20     S3(i1 = x1, i2 = -x1 + 2*x2) at 0 2: A[i2 - 1] = ((-10 * i1) + T:0[(i2 - 1) mod 4])\n\
     \x20   S3(i1 = x1, i2 = -x1 + 2*x2) at 0 2: A[i2 - 1] = ((-10 * i1) + T:0[(i2 - 1) mod 4])\n\
     \x20 }\n";
-
-#[test]
-fn prints_loops(rt: HostRuntime) -> Result<(), Fail> {
-    let alloc = rt.alloc();
-    let root = outer_loop(alloc)?;
-    let arrays = arrays(alloc)?;
-    let temps = temps(alloc)?;
-    let text = text_of(alloc, &root, arrays.as_slice(), temps.as_slice())?;
-    assert!(rt; text.is(EXPECTED));
-    Ok(())
-}
 
 /// A statement without iterators that writes 7 into cell 1 of an array.
 fn writes_seven(alloc: Global, array: u32) -> Result<Code, Fail> {
@@ -270,7 +203,6 @@ fn prints_moves(rt: HostRuntime) -> Result<(), Fail> {
     Ok(())
 }
 
-/// A unit that does nothing.
 fn empty_unit(alloc: Global) -> Unit {
     Unit {
         root: Code::Seq(List::new(alloc)),

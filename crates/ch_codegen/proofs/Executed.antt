@@ -2,7 +2,7 @@
 use Rattle.std.proofs.Common.{◌≡◌, refl, sym, ap, ◌∙◌, subst, ℕ, zero, suc, ◌≤◌, ◌<◌, ℤ, pos, ◌+ℤ◌, ◌-ℤ◌, ◌≤ℤ◌, ◌<ℤ◌, Bool, true, false, List, [], ◌∷◌, ◌++◌, length, take, get_or, ◌⊎◌, inl, inr, arith, append-nil, append_assoc, length-append, length-take-le}
 use Rattle.std.proofs.lemmas.Int.{ints}
 use Rattle.ch_affine.specs.declared.system.Range.{Range}
-use Rattle.ch_code.specs.Trace.{Traced, guarded}
+use Rattle.ch_code.specs.Trace.{Traced, guarded, turns_listed}
 use Rattle.ch_nest.specs.Run.{count}
 use Rattle.ch_poly.specs.Points.{begins_some, natural}
 use Rattle.ch_poly.proofs.Firsts.{natural_is}
@@ -10,7 +10,6 @@ use Rattle.ch_space.specs.declared.piece.Piece.{Piece}
 use Rattle.ch_space.specs.Pieces.{element_at, instances}
 use Rattle.ch_timed.specs.declared.element.Element.{Element}
 use Rattle.ch_timed.specs.Members.{Each, In}
-use Rattle.ch_timed.specs.Start.{turns_listed}
 use Rattle.ch_codegen.specs.LeastValues.{HoldEverywhere}
 use Rattle.ch_codegen.specs.Parts.{Ascends, InRanges, IsAmong, IsEarlier, Lists, looped, Together, Precedes, AllPrecede, Covers}
 use Rattle.ch_codegen.proofs.Inside.{in_append, append_left, append_right, length_inside, instance_inside, inside_instance, begun_inside, everywhere_begun, HasNumbers}

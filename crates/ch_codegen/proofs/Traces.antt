@@ -11,12 +11,11 @@ use Rattle.ch_code.specs.declared.code.Code.{Code}
 use Rattle.ch_code.specs.declared.code.Code.TheOpen.{Code-F}
 use Rattle.ch_code.specs.declared.code.Code.TheFolds.{fold-roll-Code}
 use Rattle.ch_code.specs.declared.code.Code.TheVariants.{Seq, Loop, Guard, rolls-Seq, rolls-Loop, rolls-Guard, rolls-Leaf}
-use Rattle.ch_code.specs.Trace.{Traced, trace, trace_step, one_by_one, guarded, low_of, high_of}
+use Rattle.ch_code.specs.Trace.{Traced, guarded, high_of, low_of, one_by_one, trace, trace_step, turns_listed}
 use Rattle.ch_nest.specs.Run.{count}
 use Rattle.ch_poly.specs.Points.{begins_some}
 use Rattle.ch_space.specs.declared.piece.Piece.{Piece}
 use Rattle.ch_space.specs.Pieces.{element_at}
-use Rattle.ch_timed.specs.Start.{turns_listed}
 use Rattle.ch_codegen.specs.Parts.{looped}
 use Rattle.ch_codegen.specs.Made.{bound, leaf, guard, loop, sequence}
 

@@ -5,14 +5,13 @@ use Rattle.std.specs.Cmp.Lexicographic.{slice_cmp}
 use Rattle.std.specs.declared.cmp.Ordering.TheVariants.{Less}
 use Rattle.ch_affine.specs.declared.system.Range.{Range}
 use Rattle.ch_affine.specs.Rows.{IsSystem}
-use Rattle.ch_code.specs.Trace.{Traced}
+use Rattle.ch_code.specs.Trace.{Traced, turns_listed}
 use Rattle.ch_nest.specs.Run.{count}
 use Rattle.ch_space.specs.declared.piece.Piece.{Piece}
 use Rattle.ch_space.specs.Pieces.{element_at, instances}
 use Rattle.ch_space.specs.Keeps.{places_of}
 use Rattle.ch_timed.specs.declared.element.Element.{Element}
 use Rattle.ch_timed.specs.Members.{Each, In}
-use Rattle.ch_timed.specs.Start.{turns_listed}
 
 -- the values lie in the ranges of the loops around, one in each
 abbrev pub InRanges : List Range → List ℤ → Type 0

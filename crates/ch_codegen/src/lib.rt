@@ -11,6 +11,3 @@ mod trees;
 mod units;
 
 pub use generator::generate;
-
-#[cfg(test)]
-mod tests;

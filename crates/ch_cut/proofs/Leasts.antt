@@ -255,7 +255,7 @@ module _ (ps : List Piece) (a : AreApart ps) (s level : ℤ) where
   value_in p xs i j h =
       let w = whole_in ps p a i in
       let e = element_at p xs in
-      let there = listed_in ps p e a i (map_in (element_at p) (instances p) xs j) in
+      let there = listed_in ps p e i (map_in (element_at p) (instances p) xs j) in
       let shared : test_of e ≡ true = ap (shares (natural level) ours_of) (element_places p xs w j) ∙ h in
       subst (λ z. In z (level_values (listed ps) s level)) (ap (at_level (natural level)) (element_values p xs w j))
       (map_in (λ e. at_level (natural level) (values e.vector)) (filter test_of (listed ps)) e (filter_in test_of (listed ps) e there shared))

@@ -1,5 +1,5 @@
 -- The parts of pieces are candidates for the pieces of the list in which a loop is cut.
-use Rattle.std.proofs.Common.{◌≡◌, refl, sym, ap, ◌∙◌, subst, ℕ, ◌+◌, ◌*◌, ◌<◌, ◌≤◌, ◌⊎◌, inl, inr, ℤ, pos, Bool, true, false, if◌then◌else◌, List, [], ◌∷◌, ◌++◌, map, length, arith, append-nil, append_assoc, length-append}
+use Rattle.std.proofs.Common.{◌≡◌, ◌≢◌, refl, sym, ap, ◌∙◌, subst, ℕ, ◌+◌, ◌*◌, ◌<◌, ◌≤◌, inl, inr, ℤ, pos, Bool, true, false, if◌then◌else◌, List, [], ◌∷◌, ◌++◌, map, length, arith, append-nil, append_assoc, length-append}
 use Rattle.std.specs.List.{All, flat_map}
 use Rattle.std.specs.Ordering.{int_cmp, ordering_reverse}
 use Rattle.std.specs.declared.cmp.Ordering.{Ordering}
@@ -16,18 +16,19 @@ use Rattle.ch_cut.proofs.CutPlaces.{Parted, cut_parted, parted_apart, parted_dif
 use Rattle.ch_moved.proofs.Parting.{less_parts}
 use Rattle.ch_moved.proofs.Replaced.{places_apart, turned}
 use Rattle.ch_pieces.specs.declared.candidate.Candidate.{Candidate}
-use Rattle.ch_pieces.specs.Assembled.{has_instance, wide}
+use Rattle.ch_pieces.proofs.Spaces.{pairwise_append, places_differ}
+use Rattle.ch_pieces.specs.Assembled.{wide}
 use Rattle.ch_pieces.specs.Candidates.{AreCandidates, ExecutesOne, IsKnown, stand_apart}
 use Rattle.ch_space.specs.declared.piece.Piece.{Piece}
 use Rattle.ch_space.specs.Keeps.{AreApart, IsLimited, IsWhole, most_commands, most_weight, places_of}
 use Rattle.ch_space.specs.Pieces.{element_at, elements, instances, listed}
 use Rattle.ch_space.proofs.EndsOf.{at_all}
-use Rattle.ch_space.proofs.Membership.{append_left, append_right, flat_in, in_append, in_filter, in_flat}
+use Rattle.ch_space.proofs.Membership.{append_left, append_right, flat_in, in_append, in_flat}
 use Rattle.ch_space.proofs.PieceElements.{later_in}
 use Rattle.ch_space.proofs.PieceNumbers.{all_in, in_listed, instance_in, listed_in, some_in}
 use Rattle.ch_timed.specs.declared.element.Element.{Element}
 use Rattle.ch_timed.specs.Closed.{at_vector}
-use Rattle.ch_timed.specs.Members.{In}
+use Rattle.ch_timed.specs.Members.{In, Pairwise}
 use Rattle.ch_timed.specs.Timed.{is_well_formed, step}
 use Rattle.ch_timed.specs.Vectors.{places, shares, values, woven}
 use Rattle.ch_timed.proofs.Orders.{in_map, map_in}
@@ -112,17 +113,14 @@ module _ (level : ℕ) (ours : List ℤ) (holds : List ℤ → Bool) where
       let r = comes_from ps others d all j in
       less_parted p r.piece c d some (far p r.piece (inl refl) (inr r.is_piece)) (later_in (places_of p) ps r.piece a.2 r.is_piece) h r.is_part
 
-  pub one_each : (ps : List Piece) (cs : List Candidate) (c d : Candidate) → 1 ≤ level → AreApart ps → Far ps → AllParts level ours holds ps cs → In c cs → In d cs
-      → places_of (wide c) ≡ places_of (wide d) → c ≡ d
-  one_each [] cs c d some a far h i j e = absurd (subst (In c) h i)
-  one_each (p ∷ ps) cs c d some a far h i j e =
-      by (in_append h.here h.others c (subst (In c) h.are i)) (in_append h.here h.others d (subst (In d) h.are j)) (λ k l. one_each ps h.others c d some a.3 (λ q r m n. far q r (inr m) (inr n)) h.are_others k l e)
-    where
-      by : In c h.here ⊎ In c h.others → In d h.here ⊎ In d h.others → (In c h.others → In d h.others → c ≡ d) → c ≡ d
-      by (inl k) (inl l) more = h.are_here.differ c d k l e
-      by (inl k) (inr l) more = absurd (parted_differ _ _ (later_parted p ps c d h.others some a far (h.are_here.each c k) h.are_others l) e)
-      by (inr k) (inl l) more = absurd (parted_differ _ _ (later_parted p ps d c h.others some a far (h.are_here.each d l) h.are_others k) (sym e))
-      by (inr k) (inr l) more = more k l
+  -- no two candidates stand at the same places
+  all_differ : (ps : List Piece) (cs : List Candidate) → 1 ≤ level → AreApart ps → Far ps → AllParts level ours holds ps cs → Pairwise (λ c d. places_of (wide c) ≢ places_of (wide d)) cs
+  all_differ [] cs some a far h = subst (Pairwise (λ c d. places_of (wide c) ≢ places_of (wide d))) (sym h) tt
+  all_differ (p ∷ ps) cs some a far h =
+      subst (Pairwise (λ c d. places_of (wide c) ≢ places_of (wide d))) (sym h.are)
+      (pairwise_append (λ c d. places_of (wide c) ≢ places_of (wide d)) h.here h.others h.are_here.differ
+      (all_differ ps h.others some a.3 (λ q r m n. far q r (inr m) (inr n)) h.are_others)
+      (λ c d k l. parted_differ _ _ (later_parted p ps c d h.others some a far (h.are_here.each c k) h.are_others l)))
 
   order : IsTotalOrder (slice_cmp int_cmp)
   order = lists_total int_cmp_total
@@ -167,7 +165,7 @@ module _ (level : ℕ) (ours : List ℤ) (holds : List ℤ → Bool) where
         let x = some_in (instances r.piece) (instance_in ps r.piece a r.is_piece) in
         subst (ExecutesOne (listed ps)) c.1.1 (record {
           element = element_at r.piece x.0;
-          is_element = listed_in ps r.piece (element_at r.piece x.0) a r.is_piece (map_in (element_at r.piece) (instances r.piece) x.0 x.1);
+          is_element = listed_in ps r.piece (element_at r.piece x.0) r.is_piece (map_in (element_at r.piece) (instances r.piece) x.0 x.1);
           label = r.is_part.label;
           body = r.is_part.body;
           iterators = r.is_part.iterators ∙ sym (length-map r.piece.origin (λ f. value f x.0));
@@ -191,7 +189,7 @@ module _ (level : ℕ) (ours : List ℤ) (holds : List ℤ → Bool) where
         let r = comes_from ps cs c.0 parts c.1.0 in
         let k = r.is_part.from x.0 x.1.0 in (
           element_at r.piece x.0,
-          listed_in ps r.piece (element_at r.piece x.0) a r.is_piece (map_in (element_at r.piece) (instances r.piece) x.0 k),
+          listed_in ps r.piece (element_at r.piece x.0) r.is_piece (map_in (element_at r.piece) (instances r.piece) x.0 k),
           r.is_part.element x.0 x.1.0 ∙ x.1.1,
         )
 
@@ -201,11 +199,7 @@ module _ (level : ℕ) (ours : List ℤ) (holds : List ℤ → Bool) where
       steps = keeps_steps;
       whole = all_in (λ c. IsWhole (wide c)) cs (λ c i. (comes_from ps cs c parts i).is_part.whole);
       known = all_in IsKnown cs (λ c i. (comes_from ps cs c parts i).is_part.known);
-      differ = λ q r i j e.
-          let c = wide_from q (in_filter has_instance (map wide cs) q i).0 in
-          let d = wide_from r (in_filter has_instance (map wide cs) r j).0 in
-          let same : c.0 ≡ d.0 = one_each ps cs c.0 d.0 some a far parts c.1.0 d.1.0 (ap places_of c.1.1 ∙ e ∙ sym (ap places_of d.1.1)) in
-          sym c.1.1 ∙ ap wide same ∙ d.1.1;
+      differ = places_differ cs (all_differ ps cs some a far parts);
       apart = λ q r i j.
           let c = wide_from q i in
           let d = wide_from r j in

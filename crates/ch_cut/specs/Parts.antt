@@ -1,5 +1,5 @@
 -- What the functions of this crate say among themselves of the candidates that a cut loop leaves.
-use Rattle.std.specs.Prelude.{◌≡◌, ℕ, ◌+◌, ◌-◌, ◌<◌, ◌≤◌, ℤ, pos, ◌+ℤ◌, ◌*ℤ◌, Bool, if◌then◌else◌, None, List, [], ◌∷◌, ◌++◌, length, map, take, slice_index_or, slice_set}
+use Rattle.std.specs.Prelude.{◌≡◌, ◌≢◌, ℕ, ◌+◌, ◌-◌, ◌<◌, ◌≤◌, ℤ, pos, ◌+ℤ◌, ◌*ℤ◌, Bool, if◌then◌else◌, None, List, [], ◌∷◌, ◌++◌, length, map, take, slice_index_or, slice_set}
 use Rattle.ch_affine.specs.Form.{Form}
 use Rattle.ch_cut.specs.Cut.{behind}
 use Rattle.ch_cut.specs.Forms.{failing}
@@ -15,7 +15,7 @@ use Rattle.ch_space.specs.Keeps.{IsLimited, IsWhole, most_commands, most_weight,
 use Rattle.ch_space.specs.Pieces.{element_at, instances}
 use Rattle.ch_timed.specs.declared.element.Element.{Element}
 use Rattle.ch_timed.specs.Closed.{at_vector}
-use Rattle.ch_timed.specs.Members.{In}
+use Rattle.ch_timed.specs.Members.{In, Pairwise}
 use Rattle.ch_timed.specs.Vectors.{places, shares, values, woven}
 
 -- the place before the level doubled, and the number more
@@ -73,7 +73,7 @@ pub record AreParts (level : ℕ) (ours : List ℤ) (holds : List ℤ → Bool) 
   pub few : length cs ≤ 2
   pub each : (c : Candidate) → In c cs → IsPart level ours holds p c
   pub all : (xs : List ℤ) → In xs (instances p) → (c : Candidate) × In c cs × In xs (instances c.piece)
-  pub differ : (c d : Candidate) → In c cs → In d cs → places_of (wide c) ≡ places_of (wide d) → c ≡ d
+  pub differ : Pairwise (λ c d. places_of (wide c) ≢ places_of (wide d)) cs
 
 -- the candidates of the first piece, then those of the others
 pub record Begins (level : ℕ) (ours : List ℤ) (holds : List ℤ → Bool) (p : Piece) (rest : List Candidate → Type 0)

@@ -121,8 +121,8 @@ module _ (ps : List Piece) (apart : AreApart ps) (sides : List Side) (pieces : m
       record {
         first = element_at p m.first;
         second = element_at q m.second;
-        first_in = listed_in ps p (element_at p m.first) apart ip (map_in (element_at p) (instances p) m.first g.first);
-        second_in = listed_in ps q (element_at q m.second) apart iq (map_in (element_at q) (instances q) m.second g.second);
+        first_in = listed_in ps p (element_at p m.first) ip (map_in (element_at p) (instances p) m.first g.first);
+        second_in = listed_in ps q (element_at q m.second) iq (map_in (element_at q) (instances q) m.second g.second);
         earlier = g.earlier;
         conflicting = clashing (step (element_at p m.first)) (step (element_at q m.second)) h.meets.access h.meets.other h.meets.asked g.cell;
         from = number_of t.from h.from h.is_from ∙ sym (element_places p m.first (whole_in ps p apart ip) g.first);

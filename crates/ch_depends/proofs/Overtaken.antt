@@ -1,6 +1,6 @@
 -- Pairs of conflicting elements that the new list has the other way round, told by the pieces of both lists.
 use Rattle.std.proofs.Common.{◌≡◌, ◌≢◌, refl, sym, ap, ◌∙◌, subst, ℤ, Bool, true, false, Option, Some, None, List, map, inl, inr}
-use Rattle.std.specs.List.{All, flat_map}
+use Rattle.std.specs.List.{All}
 use Rattle.std.specs.Ordering.{int_cmp, is_lt}
 use Rattle.std.specs.declared.cmp.Ordering.TheVariants.{Less}
 use Rattle.std.specs.Cmp.Lexicographic.{slice_cmp}
@@ -17,11 +17,11 @@ use Rattle.ch_order.proofs.Least as least
 use Rattle.ch_order.proofs.Steps.{same_identity_self}
 use Rattle.ch_space.specs.declared.piece.Piece.{Piece}
 use Rattle.ch_space.specs.Keeps.{AreApart}
-use Rattle.ch_space.specs.Pieces.{element_at, elements, instances, listed}
+use Rattle.ch_space.specs.Pieces.{element_at, instances, listed}
 use Rattle.ch_space.proofs.EndsOf.{at_all}
 use Rattle.ch_space.proofs.Followings.{is_less}
 use Rattle.ch_space.proofs.PieceElements.{StandsFor}
-use Rattle.ch_space.proofs.PieceNumbers.{in_listed, listed_in}
+use Rattle.ch_space.proofs.PieceNumbers.{in_listed, listed_ascends, listed_in}
 use Rattle.ch_timed.specs.Conflict.{conflict, reversed}
 use Rattle.ch_timed.specs.declared.element.Cell.{Cell}
 use Rattle.ch_timed.specs.declared.element.Element.{Element}
@@ -29,7 +29,7 @@ use Rattle.ch_timed.specs.declared.element.Identity.{Identity}
 use Rattle.ch_timed.specs.Members.{In}
 use Rattle.ch_timed.specs.Order.{Pair, is_before, overtaken}
 use Rattle.ch_timed.specs.Timed.{Step, identities_differ, same_identity, same_step, step}
-use Rattle.ch_timed.proofs.Orders.{IsAscending, in_map, map_in, not_both, not_itself, ordered_ascends}
+use Rattle.ch_timed.proofs.Orders.{IsAscending, in_map, map_in, not_both, not_itself}
 
 -- the answer for a candidate
 abbrev pub found : Option Candidate → Option (Pair Step Cell)
@@ -50,16 +50,16 @@ identity_by a b e f = λ i. record { label = e i; iters = f i }
 
 module _ (olds news : List Piece) (old_apart : AreApart olds) (new_apart : AreApart news) (differ : identities_differ (listed news) ≡ true) (kept : AreAmong (listed olds) (listed news)) where
   up_new : IsAscending (λ e. e.vector) (listed news)
-  up_new = ordered_ascends (λ e. e.vector) (flat_map elements news)
+  up_new = listed_ascends news new_apart
 
   up_old : IsAscending (λ e. e.vector) (listed olds)
-  up_old = ordered_ascends (λ e. e.vector) (flat_map elements olds)
+  up_old = listed_ascends olds old_apart
 
   in_old : (p : Piece) (xs : List ℤ) → In p olds → In xs (instances p) → In (element_at p xs) (listed olds)
-  in_old p xs i j = listed_in olds p (element_at p xs) old_apart i (map_in (element_at p) (instances p) xs j)
+  in_old p xs i j = listed_in olds p (element_at p xs) i (map_in (element_at p) (instances p) xs j)
 
   in_new : (p : Piece) (xs : List ℤ) → In p news → In xs (instances p) → In (element_at p xs) (listed news)
-  in_new p xs i j = listed_in news p (element_at p xs) new_apart i (map_in (element_at p) (instances p) xs j)
+  in_new p xs i j = listed_in news p (element_at p xs) i (map_in (element_at p) (instances p) xs j)
 
   -- where the new list has the step of an element
   record Moved (e : Element) : Type 0 where

@@ -20,9 +20,9 @@ module _ (arrays : ℕ) (ps : List Piece) (counts : List ℕ) (temps : List (Lis
   plain_at : (p : Piece) → In p ps → IsPlain p
   plain_at p i =
       let l : IsLimited weight commands p = at_all (IsLimited weight commands) ps p s.limited i in
-      let v : p.levels + p.hidden ≤ 6 + 16 * commands = l.variables in
+      let v : p.levels + p.hidden ≤ 12 + 16 * commands = l.variables in
       let c : commands ≤ 32 = s.few_commands in
-      record { whole = whole_in ps p s.apart i; variables = omega arith; iterators = l.iterators; near = near_in ps p s.apart i s.near }
+      record { whole = whole_in ps p s.apart i; variables = omega arith; iterators = l.iterators; near = near_in ps p i s.near }
 
   pub all_plain : All IsPlain ps
   all_plain = all_in IsPlain ps plain_at
@@ -38,7 +38,7 @@ module _ (arrays : ℕ) (ps : List Piece) (counts : List ℕ) (temps : List (Lis
       all_in (λ e. All (IsWrapped e.identity.iters) a.subs) (elements p)
       (λ e k.
       let x = in_map (element_at p) (instances p) e k in
-      let there : Wraps (element_at p x.0) = subst Wraps (sym x.1.1) (at_all Wraps (listed ps) e s.wrapped (listed_in ps p e s.apart i k)) in
+      let there : Wraps (element_at p x.0) = subst Wraps (sym x.1.1) (at_all Wraps (listed ps) e s.wrapped (listed_in ps p e i k)) in
       subst (λ z. All (IsWrapped z.identity.iters) a.subs) x.1.1 (at_all (λ a. All (IsWrapped (element_at p x.0).identity.iters) a.subs) (accesses p.body) a there j))
 
   access_at : (p : Piece) (a : Access) → In p ps → In a (accesses p.body) → IsAccessOf p a

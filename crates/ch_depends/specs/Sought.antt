@@ -22,7 +22,7 @@ use Rattle.ch_timed.specs.Conflict.{reads}
 use Rattle.ch_timed.specs.declared.element.Element.{Element}
 use Rattle.ch_timed.specs.Members.{In}
 
--- a subscript's form has a coefficient for each iterator, and a value that fits a word
+-- a subscript's form has a coefficient for each iterator, and a value within the most cells of an array
 pub record IsReadable (iters : List ℤ) (a : Access) : Type 0 where
   pub forms : All (λ s. length s.form.coefs ≡ length iters) a.subs
   pub reached : All (IsReached iters) a.subs

@@ -1,5 +1,6 @@
 -- What the code makes of a space, seen as contracts see it.
 use Rattle.std.proofs.Common.{◌≡◌, sym, ap, ◌∙◌, subst, ℕ, ◌+◌, ◌≤◌, ℤ, pos, ◌≤ℤ◌, Bool, None, List, [], ◌∷◌, map, length, take, get_or, ◌⊎◌, zero, suc, arith}
+use Rattle.std.proofs.lemmas.Bool.{and_parts}
 use Rattle.std.proofs.lemmas.Int.{ints}
 use Rattle.std.proofs.lemmas.List.{take_all}
 use Rattle.ch_fuse.specs.Replaced.{ArePlaced, relocated, replaced}
@@ -54,7 +55,7 @@ module _ (arrays weight commands : ℕ) (ps : List Piece) (counts : List ℕ) (t
   never change w c cs h n =
       let f = few in
       subst (λ z. too_many change z ≡ None) same_list
-      (never_too_many change w c ps cs space.apart (subst (λ z. AreCandidates change z w c cs) (sym same_list) h) (omega arith))
+      (never_too_many change w c ps cs (and_parts _ _ space.well_formed).0 space.apart (subst (λ z. AreCandidates change z w c cs) (sym same_list) h) (omega arith))
 
   module _ (new : List ℤ → List ℤ) (others : List Piece) (k : ℕ) (cs : List Candidate) (same : others ≡ ps) (all : length others ≤ k) (h : ArePlaced new (take k others) cs) where
     all_placed : ArePlaced new ps cs

@@ -1,5 +1,5 @@
 -- Pieces at other places are candidates for the elements at other places, where places that differ still do.
-use Rattle.std.proofs.Common.{◌≡◌, refl, sym, ap, ap₂, ◌∙◌, subst, ℕ, suc, ◌+◌, ◌*◌, ℤ, pos, Bool, true, false, cond, List, [], ◌∷◌, map, length, get_or, ◌⊎◌, inl, inr, IfSome, arith}
+use Rattle.std.proofs.Common.{◌≡◌, ◌≢◌, refl, sym, ap, ap₂, ◌∙◌, subst, ℕ, suc, ◌+◌, ◌*◌, ℤ, pos, Bool, true, false, cond, List, [], ◌∷◌, map, length, get_or, ◌⊎◌, inl, inr, IfSome, arith}
 use Rattle.std.specs.List.{flat_map}
 use Rattle.std.proofs.lemmas.List.{length-map}
 use Rattle.ch_affine.specs.Affine.{value}
@@ -8,33 +8,24 @@ use Rattle.ch_fuse.proofs.Differing.{Differ, apart_differ, differ_apart}
 use Rattle.ch_moved.proofs.Limits.{more_limits}
 use Rattle.ch_moved.proofs.Replaced.{places_apart, same_apart}
 use Rattle.ch_pieces.specs.declared.candidate.Candidate.{Candidate}
-use Rattle.ch_pieces.specs.Assembled.{has_instance, wide}
+use Rattle.ch_pieces.proofs.Spaces.{places_differ}
+use Rattle.ch_pieces.specs.Assembled.{wide}
 use Rattle.ch_pieces.specs.Candidates.{AreCandidates, ExecutesOne, IsKnown}
 use Rattle.ch_space.specs.declared.piece.Piece.{Piece}
-use Rattle.ch_space.specs.Keeps.{IsLimited, IsSpace, IsWhole, places_of}
+use Rattle.ch_space.specs.Keeps.{AreApart, IsLimited, IsSpace, IsWhole, places_of}
 use Rattle.ch_space.specs.Pieces.{element_at, elements, instances, listed}
 use Rattle.ch_space.specs.Renumbered.{placed}
 use Rattle.ch_space.proofs.EndsOf.{at_all}
-use Rattle.ch_space.proofs.Membership.{flat_in, in_filter, in_flat}
-use Rattle.ch_space.proofs.PieceElements.{element_places, element_values, length_pos, same_piece, whole_in}
+use Rattle.ch_space.proofs.Membership.{flat_in, in_flat}
+use Rattle.ch_space.proofs.PieceElements.{each_from_in, element_places, element_values, later_in, length_pos, never, whole_in}
 use Rattle.ch_space.proofs.PieceNumbers.{all_in, in_listed, instance_in, listed_in, numbered, some_in}
 use Rattle.ch_timed.specs.declared.element.Element.{Element}
 use Rattle.ch_timed.specs.Closed.{at_vector}
-use Rattle.ch_timed.specs.Members.{In}
+use Rattle.ch_timed.specs.Members.{In, Pairwise}
 use Rattle.ch_timed.specs.Timed.{pieces, step}
 use Rattle.ch_timed.specs.Vectors.{places, values, woven}
 use Rattle.ch_timed.proofs.Orders.{in_map, map_in}
 use Rattle.ch_timed.proofs.Prefixes.{apart}
-
-naturals_same : (xs ys : List ℕ) → map pos xs ≡ map pos ys → xs ≡ ys
-naturals_same [] [] e = refl
-naturals_same [] (y ∷ ys) e = cc
-naturals_same (x ∷ xs) [] e = cc
-naturals_same (x ∷ xs) (y ∷ ys) e =
-    let h : pos x ≡ pos y = cc in
-    let k : x ≡ y = cc in
-    let t : map pos xs ≡ map pos ys = cc in
-    ap₂ (λ z zs. z ∷ zs) k (naturals_same xs ys t)
 
 module _ (new : List ℤ → List ℤ) where
   pub how_many_placed : (ps : List Piece) (cs : List Candidate) → ArePlaced new ps cs → length cs ≡ length ps
@@ -130,23 +121,20 @@ module _ (inside : List ℤ → Bool) (f : List ℤ → List ℤ) (long : (v : L
       | inr d ↦ inr (keeps _ _ (number_in p i) (number_in r j) d)
     ]
 
-    same_places : (c d : Candidate) (p : Piece) → IsPlaced (new (places_of p)) p c → IsPlaced (new (places_of p)) p d → wide c ≡ wide d
-    same_places c d p a b =
-        is_placed _ p c a ∙ ap (placed p) (naturals_same c.places d.places (a.places ∙ sym b.places)) ∙ sym (is_placed _ p d b)
-
-    one_place : (q r : Piece) → In q (map wide cs) → In r (map wide cs) → places_of q ≡ places_of r → q ≡ r
-    one_place q r i j e =
-        let x = from q i in
-        let y = from r j in
-        let f : new (places_of x.old) ≡ new (places_of y.old) = sym (places_from q x) ∙ e ∙ places_from r y in
-        elim (one_or_differ x.old y.old x.is_old y.is_old) [
-          | inl k ↦
-              let one = same_piece ps x.old y.old space.apart x.is_old y.is_old k in
-              sym x.is
-              ∙ same_places x.candidate y.candidate y.old (subst (λ z. IsPlaced (new (places_of z)) z x.candidate) one x.is_placed_there) y.is_placed_there
-              ∙ y.is
-          | inr d ↦ absurd (d.1.differ (ap (λ z. get_or z d.0 (pos 0)) f))
-        ]
+    -- no two candidates stand at the same places
+    all_differ : (qs : List Piece) (ds : List Candidate) → ((p : Piece) → In p qs → In p ps) → AreApart qs → ArePlaced new qs ds → Pairwise (λ c d. places_of (wide c) ≢ places_of (wide d)) ds
+    all_differ [] [] s a h = tt
+    all_differ [] (d ∷ ds) s a h = absurd h
+    all_differ (p ∷ qs) [] s a h = tt
+    all_differ (p ∷ qs) (c ∷ ds) s a h = (
+      each_from_in (λ d. places_of (wide c) ≢ places_of (wide d)) ds (λ d i e.
+          let r = from_piece new qs ds h.1 d i in
+          elim (one_or_differ p r.0 (s p (inl refl)) (s r.0 (inr r.1))) as (λ _. ⊥) [
+            | inl k ↦ never (places_of p) (places_of r.0) (later_in (places_of p) qs r.0 a.2 r.1) k
+            | inr f ↦ f.1.differ (ap (λ z. get_or z f.0 (pos 0)) (sym h.0.places ∙ e ∙ r.2.places))
+          ]),
+      all_differ qs ds (λ q i. s q (inr i)) a.3 h.1,
+    )
 
     stands_apart : (q r : Piece) → In q (map wide cs) → In r (map wide cs) → apart (places_of q) (places_of r) ≡ true
     stands_apart q r i j =
@@ -166,7 +154,7 @@ module _ (inside : List ℤ → Bool) (f : List ℤ → List ℤ) (long : (v : L
         let e : q ≡ placed p x.candidate.places = sym x.is ∙ is_placed _ p x.candidate x.is_placed_there in
         record {
           element = element_at p v.0;
-          is_element = listed_in ps p (element_at p v.0) space.apart x.is_old (map_in (element_at p) (instances p) v.0 v.1);
+          is_element = listed_in ps p (element_at p v.0) x.is_old (map_in (element_at p) (instances p) v.0 v.1);
           label = ap (λ (z : Piece). z.label) e;
           body = ap (λ (z : Piece). z.body) e;
           iterators = ap (λ (z : Piece). length z.origin) e ∙ sym (length-map p.origin (λ o. value o v.0));
@@ -191,7 +179,7 @@ module _ (inside : List ℤ → Bool) (f : List ℤ → List ℤ) (long : (v : L
         let same : instances q.0 ≡ instances p = ap instances (sym x.is ∙ is_placed _ p x.candidate x.is_placed_there) in
         let inst = subst (In y.0) same y.1.0 in (
           element_at p y.0,
-          listed_in ps p (element_at p y.0) space.apart x.is_old (map_in (element_at p) (instances p) y.0 inst),
+          listed_in ps p (element_at p y.0) x.is_old (map_in (element_at p) (instances p) y.0 inst),
           moved_at p x.candidate y.0 (whole_of p x.is_old) inst x.is_placed_there ∙ ap (λ z. element_at z y.0) x.is ∙ y.1.1,
         )
 
@@ -210,7 +198,7 @@ module _ (inside : List ℤ → Bool) (f : List ℤ → List ℤ) (long : (v : L
       known = all_in IsKnown cs (λ c i.
           let p = from_piece new ps cs h c i in
           subst (λ o. IfSome o (λ n. n ≡ length (instances c.piece))) (sym p.2.count) (ap (λ z. length (instances z)) (sym p.2.piece)));
-      differ = λ q r i j e. one_place q r (in_filter has_instance (map wide cs) q i).0 (in_filter has_instance (map wide cs) r j).0 e;
+      differ = places_differ cs (all_differ ps cs (λ p i. i) space.apart h);
       apart = stands_apart;
       executes = executes_one;
       forth = goes;

@@ -2,7 +2,7 @@
 use Rattle.std.proofs.Common.{◌≡◌, ap, ℕ, ◌≤◌, ℤ, pos, List, [], ◌∷◌, map, length}
 use Rattle.ch_order.specs.Legal.{AreAmong}
 use Rattle.ch_space.specs.declared.piece.Piece.{Piece}
-use Rattle.ch_space.specs.Keeps.{AreApart, IsLimited, IsSpace, IsWhole, most_commands, most_weight}
+use Rattle.ch_space.specs.Keeps.{IsLimited, IsSpace, IsWhole, most_commands, most_weight}
 use Rattle.ch_space.specs.Pieces.{element_at, instances, listed}
 use Rattle.ch_moved.proofs.Replaced.{AllReplaced, IsReplaced, among_replaced, places_apart, replaced_among, replaced_list, replaced_space}
 use Rattle.ch_timed.specs.declared.element.Element.{Element}
@@ -48,12 +48,13 @@ module _ (g : Element → Element) (weight commands : ℕ) where
   all_replaced (p ∷ ps) [] r = absurd r
   all_replaced (p ∷ ps) (q ∷ qs) r = (replaced p q r.0, all_replaced ps qs r.1)
 
-  pub remade_list : (ps qs : List Piece) → AreApart ps → AllRemade g weight commands ps qs → listed qs ≡ in_order (map g (listed ps))
-  remade_list ps qs a r = replaced_list unmoved g weight commands ps qs a (λ p q i j l. l) (all_replaced ps qs r)
-
 module _ (g : Element → Element) (keeps : (e : Element) → step (g e) ≡ step e) (weight commands : ℕ) (arrays : ℕ) (ps qs : List Piece) (counts : List ℕ) (temps : List (List ℕ))
     (old_weight old_commands : ℕ) (space : IsSpace arrays ps counts temps old_weight old_commands) (r : AllRemade g weight commands ps qs) where
-  -- pieces that are remade one by one make a space again
+  -- pieces that are remade one by one make the moved list
+  pub remade_list : listed qs ≡ in_order (map g (listed ps))
+  remade_list = replaced_list unmoved g keeps weight commands arrays ps qs counts temps old_weight old_commands space (all_replaced g weight commands ps qs r) (λ p q i j l. l)
+
+  -- and a space again
   pub remade_space : old_commands ≤ commands → commands ≤ most_commands → 1 ≤ weight → weight ≤ most_weight → IsSpace arrays qs counts temps weight commands
   remade_space =
       replaced_space unmoved g keeps weight commands arrays ps qs counts temps old_weight old_commands space (all_replaced g weight commands ps qs r) (λ p q i j l. l)

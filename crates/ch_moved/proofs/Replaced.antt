@@ -13,15 +13,15 @@ use Rattle.ch_space.specs.declared.piece.Piece.{Piece}
 use Rattle.ch_space.specs.Keeps.{AllLater, AreApart, IsLimited, IsSpace, IsWhole, most_commands, most_pieces, most_weight, places_of}
 use Rattle.ch_space.specs.Pieces.{element_at, elements, instances, listed}
 use Rattle.ch_space.proofs.Membership.{append_left, append_right, in_append}
-use Rattle.ch_space.proofs.PieceElements.{element_places, elements_ascend, one_each, whole_in}
-use Rattle.ch_space.proofs.PieceNumbers.{Differ, all_in, instance_in, listed_in, lists_same, ordered_length, same_lists, some_in}
+use Rattle.ch_space.proofs.PieceElements.{OneEach, element_places, elements_ascend, one_each, whole_in}
+use Rattle.ch_space.proofs.PieceNumbers.{all_in, images_differ, instance_in, listed_in, lists_same, same_lists, some_in}
 use Rattle.ch_moved.proofs.Taken.{ComesFrom, PlacesApart, Taken, listed_taken, steps_among, steps_from, taken_space}
 use Rattle.ch_timed.specs.declared.element.Element.{Element}
 use Rattle.ch_timed.specs.Members.{In}
 use Rattle.ch_timed.specs.Timed.{identities_differ, in_order, is_apart, is_well_formed, pieces_apart, step}
 use Rattle.ch_timed.specs.Vectors.{begins_with, places, same_numbers}
 use Rattle.ch_timed.proofs.Prefixes.{apart}
-use Rattle.ch_timed.proofs.Orders.{IsAscending, OneEach, at_each, in_map, map_in, not_itself, retimed}
+use Rattle.ch_timed.proofs.Orders.{ascending_differ, in_map, map_in, ordered_length, retimed}
 use Rattle.ch_timed.proofs.Sorted.{ascends_ordered}
 
 -- The piece has the elements of the other one, moved by g; `placed` gives its places from the old ones, and it keeps to the limits.
@@ -99,9 +99,6 @@ module _ (placed : List ℤ → List ℤ) (g : Element → Element) (weight comm
   pub all_taken : (ps qs : List Piece) → AllReplaced placed g weight commands ps qs → Taken g ps qs
   all_taken ps qs r = record { forth = forth_all ps qs r; back = back_all ps qs r }
 
-  pub replaced_list : (ps qs : List Piece) → AreApart ps → KeepsOrder ps → AllReplaced placed g weight commands ps qs → listed qs ≡ in_order (map g (listed ps))
-  replaced_list ps qs a o r = listed_taken g ps qs a (apart_kept ps qs r o a) (all_taken ps qs r)
-
   -- the piece that a piece was made from
   replaced_from : (ps qs : List Piece) → AllReplaced placed g weight commands ps qs → (q : Piece) → In q qs → (p : Piece) × (In p ps × IsReplaced placed g weight commands p q)
   replaced_from [] [] r q i = absurd i
@@ -118,19 +115,8 @@ module _ (placed : List ℤ → List ℤ) (g : Element → Element) (weight comm
 
 -- How many instances there are.
 
-map_differs : (g : Element → Element) (xs : List Element) → IsAscending (λ e. e.vector) xs
-    → ((e f : Element) → In e xs → In f xs → (g e).vector ≡ (g f).vector → e ≡ f) → Differ (λ e. e.vector) (map g xs)
-map_differs g [] a h = tt
-map_differs g (x ∷ xs) a h = (
-  (λ y i v.
-      let s = in_map g xs y i in
-      let same : x ≡ s.0 = h x s.0 (inl refl) (inr s.1.0) (v ∙ ap (λ z. z.vector) (sym s.1.1)) in
-      not_itself (λ (e : Element). e.vector) x (subst (λ z. slice_cmp int_cmp x.vector z.vector ≡ Less) (sym same) (at_each (λ y. slice_cmp int_cmp x.vector y.vector ≡ Less) xs a.0 s.0 s.1.0))),
-  map_differs g xs a.1 (λ e f i j. h e f (inr i) (inr j)),
-)
-
 module _ (placed : List ℤ → List ℤ) (g : Element → Element) (keeps : (e : Element) → step (g e) ≡ step e) (weight commands : ℕ) where
-  single : (q : Piece) → IsWhole q → instances q ≢ [] → OneEach (λ e. e.vector) (elements q)
+  single : (q : Piece) → IsWhole q → instances q ≢ [] → OneEach (elements q)
   single q w some e f i j v =
       one_each (q ∷ []) (w, some, tt, tt) e f (append_left (elements q) [] e i) (append_left (elements q) [] f j) v
 
@@ -143,13 +129,13 @@ module _ (placed : List ℤ → List ℤ) (g : Element → Element) (keeps : (e 
       let forth : (e : Element) → In e (elements p) → In (g e) (elements q) = λ e j. from_one q (g e) (t.forth e (append_left (elements p) [] e j)) in
       let back : (f : Element) → In f (elements q) → (e : Element) × (In e (elements p) × (g e ≡ f)) = λ f j.
       let s = t.back f (append_left (elements q) [] f j) in (s.0, (from_one p s.0 s.1.0, s.1.1)) in
-      let same : elements q ≡ in_order (map g (elements p)) =
-      sym (ascends_ordered (elements q) up_too) ∙ retimed (λ e. e.vector) (elements p) (elements q) g (single p w some) (single q r.whole (some_kept placed g weight commands p q r some)) forth back
-      ∙ ap (λ z. in_order (map g z)) (ascends_ordered (elements p) up) in
-      let differ : Differ (λ e. e.vector) (map g (elements p)) = map_differs g (elements p) up (λ e f j k v.
+      let images = images_differ (λ e. e.vector) g (elements p) (ascending_differ (λ e. e.vector) (elements p) up) (λ e f j k v.
       let one = single q r.whole (some_kept placed g weight commands p q r some) (g e) (g f) (forth e j) (forth f k) v in
-      one_identity (listed ps) e f d (listed_in ps p e a i j) (listed_in ps p f a i k) (same_identity_of e f (sym (keeps e) ∙ ap step one ∙ keeps f))) in
-      sym (length-map (instances q) (element_at q)) ∙ ap length same ∙ ordered_length (λ e. e.vector) (map g (elements p)) differ ∙ length-map (elements p) g ∙ length-map (instances p) (element_at p)
+      one_identity (listed ps) e f d (listed_in ps p e i j) (listed_in ps p f i k) (same_identity_of e f (sym (keeps e) ∙ ap step one ∙ keeps f))) in
+      let same : elements q ≡ in_order (map g (elements p)) =
+      sym (ascends_ordered (elements q) up_too) ∙ retimed (λ e. e.vector) (elements p) (elements q) g (ascending_differ (λ e. e.vector) (elements q) up_too) images forth back
+      ∙ ap (λ z. in_order (map g z)) (ascends_ordered (elements p) up) in
+      sym (length-map (instances q) (element_at q)) ∙ ap length same ∙ ordered_length (λ e. e.vector) (map g (elements p)) ∙ length-map (elements p) g ∙ length-map (instances p) (element_at p)
     where
       from_one : (s : Piece) (e : Element) → In e (flat_map elements (s ∷ [])) → In e (elements s)
       from_one s e i = elim (in_append (elements s) [] e i) as (λ _. In e (elements s)) [ inl j ↦ j | inr j ↦ absurd j ]
@@ -194,8 +180,8 @@ places_apart ps a h p q i j =
     let far = (and_parts _ _ (and_parts _ _ (and_parts _ _ h).1).1).0 in
     let x = some_in (instances p) (instance_in ps p a i) in
     let y = some_in (instances q) (instance_in ps q a j) in
-    let e = listed_in ps p (element_at p x.0) a i (map_in (element_at p) (instances p) x.0 x.1) in
-    let f = listed_in ps q (element_at q y.0) a j (map_in (element_at q) (instances q) y.0 y.1) in
+    let e = listed_in ps p (element_at p x.0) i (map_in (element_at p) (instances p) x.0 x.1) in
+    let f = listed_in ps q (element_at q y.0) j (map_in (element_at q) (instances q) y.0 y.1) in
     subst (λ z. apart z (places_of q) ≡ true) (element_places p x.0 (whole_in ps p a i) x.1)
     (subst (λ z. apart (places (element_at p x.0).vector) z ≡ true) (element_places q y.0 (whole_in ps q a j) y.1)
     (members_apart (listed ps) (element_at p x.0) (element_at q y.0) far e f))
@@ -219,7 +205,12 @@ module _ (placed : List ℤ → List ℤ) (g : Element → Element) (keeps : (e 
 
   module _ (arrays : ℕ) (ps qs : List Piece) (counts : List ℕ) (temps : List (List ℕ)) (old_weight old_commands : ℕ) (space : IsSpace arrays ps counts temps old_weight old_commands)
       (r : AllReplaced placed g weight commands ps qs) (order : KeepsOrder placed g weight commands ps) where
-    -- pieces that are replaced one by one make a space again
+    -- pieces that are replaced one by one make the moved list
+    pub replaced_list : listed qs ≡ in_order (map g (listed ps))
+    replaced_list =
+        listed_taken g ps qs keeps (and_parts _ _ space.well_formed).0 space.apart (apart_kept placed g weight commands ps qs r order space.apart) (all_taken placed g weight commands ps qs r)
+
+    -- and a space again
     pub replaced_space : KeepsApart ps → old_commands ≤ commands → commands ≤ most_commands → 1 ≤ weight → weight ≤ most_weight → IsSpace arrays qs counts temps weight commands
     replaced_space far more few some small =
         let differ = (and_parts _ _ space.well_formed).0 in

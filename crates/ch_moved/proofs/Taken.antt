@@ -1,53 +1,34 @@
 -- Pieces that have the elements of other pieces, moved: they make a space again, which stands for the moved list.
-use Rattle.std.proofs.Common.{◌≡◌, sym, ap, ◌∙◌, subst, ℕ, suc, ◌*◌, ◌≤◌, ◌^◌, ℤ, true, List, [], ◌∷◌, map, length, arith}
+use Rattle.std.proofs.Common.{◌≡◌, sym, ap, ◌∙◌, subst, ℕ, ◌*◌, ◌≤◌, ◌^◌, true, List, map, length, arith}
 use Rattle.std.specs.List.{All, flat_map}
-use Rattle.std.specs.declared.cmp.Ordering.{Ordering}
-use Rattle.std.specs.declared.cmp.Ordering.TheVariants.{Less, Equal, Greater}
-use Rattle.std.specs.Ordering.{int_cmp}
-use Rattle.std.specs.Cmp.Lexicographic.{slice_cmp}
 use Rattle.std.proofs.lemmas.Bool.{and_from, and_parts}
 use Rattle.std.proofs.lemmas.List.{length-map}
 use Rattle.ch_affine.specs.Affine.{IsAtMost}
 use Rattle.ch_nest.specs.declared.nest.Access.{Access}
 use Rattle.ch_order.specs.Legal.{AreAmong}
-use Rattle.ch_order.proofs.Kept.{differ_kept, no_others, steps_kept}
+use Rattle.ch_order.proofs.Kept.{differ_kept, no_others, one_identity, steps_kept}
+use Rattle.ch_order.proofs.Steps.{same_identity_of}
 use Rattle.ch_space.specs.declared.piece.Piece.{Piece}
 use Rattle.ch_space.specs.Keeps.{AreApart, IsBody, IsLimited, IsMoveBelow, IsReached, IsSpace, IsWrapped, accesses, most_commands, most_pieces, most_weight, places_of}
 use Rattle.ch_space.specs.Pieces.{elements, instances, listed}
 use Rattle.ch_space.proofs.EndsOf.{at_all}
 use Rattle.ch_space.proofs.Membership.{flat_in, in_flat}
 use Rattle.ch_space.proofs.PieceElements.{StandsFor, each_from_in, long, one_each, whole_in}
-use Rattle.ch_space.proofs.PieceNumbers.{all_in, in_listed, list_length}
+use Rattle.ch_space.proofs.PieceNumbers.{all_in, elements_differ, images_differ, in_listed, list_length, listed_ascends}
 use Rattle.ch_timed.specs.declared.element.Element.{Element}
 use Rattle.ch_timed.specs.declared.element.Label.{Label}
 use Rattle.ch_timed.specs.declared.element.Label.TheVariants.{Stmt, Move}
 use Rattle.ch_timed.specs.Members.{In}
-use Rattle.ch_timed.specs.Ordered.{ordered, put, put_by}
-use Rattle.ch_timed.specs.Timed.{Step, in_order, is_well_formed, step}
+use Rattle.ch_timed.specs.Timed.{Step, identities_differ, in_order, is_well_formed, step}
 use Rattle.ch_timed.specs.Vectors.{places}
 use Rattle.ch_timed.specs.Closed.{closed_up}
 use Rattle.ch_timed.proofs.ClosedUp.{same_steps}
-use Rattle.ch_timed.proofs.Orders.{from_order, ordered_ascends, retimed, to_order}
+use Rattle.ch_timed.proofs.Orders.{from_order, ordered_length, retimed, to_order}
 use Rattle.ch_timed.proofs.Prefixes.{apart}
 use Rattle.ch_timed.proofs.Sorted.{ascends_adjacent}
 use Rattle.ch_timed.proofs.WellFormed.{apart_by}
 use Rattle.ch_timed.proofs.Woven.{HasVector, vectors_by, woven_is_vector}
 use Rattle.ch_space.proofs.PieceElements.{element_places}
-
--- to put a list in order makes it no longer
-
-shorter_by : {A : Type 0} (o : Ordering) (e x : A) (xs rest : List A) → length rest ≤ suc (length xs) → length (put_by o e x xs rest) ≤ suc (suc (length xs))
-shorter_by Less e x xs rest h = omega arith
-shorter_by Equal e x xs rest h = omega arith
-shorter_by Greater e x xs rest h = omega arith
-
-put_shorter : {A : Type 0} (key : A → List ℤ) (e : A) (xs : List A) → length (put key e xs) ≤ suc (length xs)
-put_shorter key e [] = omega arith
-put_shorter key e (x ∷ xs) = shorter_by (slice_cmp int_cmp (key e) (key x)) e x xs (put key e xs) (put_shorter key e xs)
-
-pub ordered_shorter : {A : Type 0} (key : A → List ℤ) (xs : List A) → length (ordered key xs) ≤ length xs
-ordered_shorter key [] = omega arith
-ordered_shorter key (x ∷ xs) = let h = put_shorter key x (ordered key xs) in let k = ordered_shorter key xs in omega arith
 
 -- closing up changes no steps
 
@@ -65,8 +46,16 @@ pub record Taken (g : Element → Element) (ps qs : List Piece) : Type 0 where
   pub forth : (e : Element) → In e (flat_map elements ps) → In (g e) (flat_map elements qs)
   pub back : (f : Element) → In f (flat_map elements qs) → (e : Element) × (In e (flat_map elements ps) × (g e ≡ f))
 
-pub listed_taken : (g : Element → Element) (ps qs : List Piece) → AreApart ps → AreApart qs → Taken g ps qs → listed qs ≡ in_order (map g (listed ps))
-listed_taken g ps qs a b t = retimed (λ e. e.vector) (flat_map elements ps) (flat_map elements qs) g (one_each ps a) (one_each qs b) t.forth t.back
+-- Steps that are kept, each of them once, and pieces that stand apart: so no two elements get one vector.
+pub listed_taken : (g : Element → Element) (ps qs : List Piece) → ((e : Element) → step (g e) ≡ step e) → identities_differ (listed ps) ≡ true → AreApart ps → AreApart qs → Taken g ps qs
+    → listed qs ≡ in_order (map g (listed ps))
+listed_taken g ps qs keeps differ a b t =
+    retimed (λ e. e.vector) (flat_map elements ps) (flat_map elements qs) g (elements_differ qs b)
+    (images_differ (λ e. e.vector) g (flat_map elements ps) (elements_differ ps a) (λ e f i j v.
+    let one = one_each qs b (g e) (g f) (t.forth e i) (t.forth f j) v in
+    one_identity (listed ps) e f differ (to_order (λ e. e.vector) (flat_map elements ps) e i) (to_order (λ e. e.vector) (flat_map elements ps) f j)
+    (same_identity_of e f (sym (keeps e) ∙ ap step one ∙ keeps f))))
+    t.forth t.back
 
 -- The piece has the label and the body of one of these, and as many iterators.
 pub record ComesFrom (ps : List Piece) (q : Piece) : Type 0 where
@@ -83,12 +72,12 @@ PlacesApart qs = (q r : Piece) → In q qs → In r qs → apart (places_of q) (
 module _ (arrays : ℕ) (ps : List Piece) (counts : List ℕ) (temps : List (List ℕ)) (weight commands : ℕ) (space : IsSpace arrays ps counts temps weight commands)
     (g : Element → Element) (keeps : (e : Element) → step (g e) ≡ step e) (qs : List Piece) (apart_too : AreApart qs) (taken : Taken g ps qs) where
   there : (e : Element) → In e (listed ps) → In (g e) (listed qs)
-  there e i = to_order (λ e. e.vector) (flat_map elements qs) (one_each qs apart_too) (g e) (taken.forth e (from_order (λ e. e.vector) (flat_map elements ps) e i))
+  there e i = to_order (λ e. e.vector) (flat_map elements qs) (g e) (taken.forth e (from_order (λ e. e.vector) (flat_map elements ps) e i))
 
   back : (f : Element) → In f (listed qs) → (e : Element) × (In e (listed ps) × (g e ≡ f))
   back f i =
       let r = taken.back f (from_order (λ e. e.vector) (flat_map elements qs) f i) in
-      (r.0, (to_order (λ e. e.vector) (flat_map elements ps) (one_each ps space.apart) r.0 r.1.0, r.1.1))
+      (r.0, (to_order (λ e. e.vector) (flat_map elements ps) r.0 r.1.0, r.1.1))
 
   -- what holds of the steps of the old elements holds of those of the new ones
   pub steps_hold : (P : Step → Type 0) → All (λ e. P (step e)) (listed ps) → All (λ e. P (step e)) (listed qs)
@@ -98,15 +87,15 @@ module _ (arrays : ℕ) (ps : List Piece) (counts : List ℕ) (temps : List (Lis
 
   -- the same steps are executed
   pub steps_among : AreAmong (listed ps) (listed qs)
-  steps_among = steps_kept (listed ps) (listed qs) g (ordered_ascends (λ (e : Element). e.vector) (flat_map elements qs)) (and_parts _ _ space.well_formed).0 keeps there back
+  steps_among = steps_kept (listed ps) (listed qs) g (listed_ascends qs apart_too) (and_parts _ _ space.well_formed).0 keeps there back
 
   pub steps_from : AreAmong (listed qs) (listed ps)
-  steps_from = no_others (listed ps) (listed qs) g (ordered_ascends (λ (e : Element). e.vector) (flat_map elements qs)) (and_parts _ _ space.well_formed).0 keeps there back
+  steps_from = no_others (listed ps) (listed qs) g (listed_ascends qs apart_too) (and_parts _ _ space.well_formed).0 keeps there back
 
   fine : PlacesApart qs → is_well_formed (listed qs) ≡ true
   fine far =
       let a = and_parts _ _ space.well_formed in
-      let up = ordered_ascends (λ (e : Element). e.vector) (flat_map elements qs) in
+      let up = listed_ascends qs apart_too in
       and_from _ _ (differ_kept (listed ps) (listed qs) g up a.0 keeps there back)
       (and_from _ _ (ascends_adjacent (listed qs) up)
       (and_from _ _ (apart_by (listed qs) (each_from_in _ (listed qs) (λ e i. each_from_in _ (listed qs) (λ f j. both e f (in_listed qs e i) (in_listed qs f j)))))
@@ -151,8 +140,8 @@ module _ (arrays : ℕ) (ps : List Piece) (counts : List ℕ) (temps : List (Lis
   taken_space new_counts new_weight new_commands far from counted few_pieces more few_commands some small limited =
       let l = list_length qs new_counts apart_too counted in
       let m = list_length ps counts space.apart space.counted in
-      let e = ap length (listed_taken g ps qs space.apart apart_too taken) in
-      let s = ordered_shorter (λ (e : Element). e.vector) (map g (listed ps)) in
+      let e = ap length (listed_taken g ps qs keeps (and_parts _ _ space.well_formed).0 space.apart apart_too taken) in
+      let s = ordered_length (λ (e : Element). e.vector) (map g (listed ps)) in
       let n = length-map (listed ps) g in
       let f = space.few in
       record {

@@ -85,7 +85,8 @@ module _ (inside : List ℤ → Bool) (new : List ℤ → List ℤ) (by arrays w
 
   pub made_list : closed_up (listed qs) ≡ moved (revalued inside new) (listed ps)
   made_list =
-      ap closed_up (remade_list (revalued inside new) (w * by) (c + 1) ps qs space.apart (all_remade inside new by w c space.some_weight grows ps qs space.apart space.limited h))
+      ap closed_up (remade_list (revalued inside new) (keeps_steps inside new) (w * by) (c + 1) arrays ps qs counts temps w c space
+      (all_remade inside new by w c space.some_weight grows ps qs space.apart space.limited h))
 
   made_fine : c < most_commands → w * by ≤ most_weight → is_well_formed (listed qs) ≡ true
   made_fine few light = (made_space few light).well_formed

@@ -9,8 +9,6 @@ mod permuting;
 mod pieces;
 mod ranges;
 mod skewing;
-#[cfg(test)]
-mod tests;
 
 pub use permuting::permute;
 pub use skewing::{shift, skew};

@@ -3,12 +3,11 @@ use Rattle.std.proofs.Common.{◌≡◌, refl, sym, ap, ap₂, ◌∙◌, subst,
 use Rattle.std.specs.List.{All, filter}
 use Rattle.std.proofs.lemmas.List.{get_or-map, length-map}
 use Rattle.std.proofs.lemmas.List.Elements.{All-head, All-tail}
-use Rattle.ch_moved.proofs.Taken.{ordered_shorter}
 use Rattle.ch_pieces.specs.declared.candidate.Candidate.{Candidate}
 use Rattle.ch_pieces.specs.declared.parts.Part.{Part}
 use Rattle.ch_pieces.specs.Assembled.{IsAssembled, has_instance, wide}
 use Rattle.ch_pieces.specs.InOrder.{AreParts, IsCounted, wide_part}
-use Rattle.ch_pieces.proofs.Spaces.{assembled_apart}
+use Rattle.ch_pieces.proofs.Spaces.{PlacesDiffer, assembled_apart}
 use Rattle.ch_space.specs.declared.piece.Piece.{Piece}
 use Rattle.ch_space.specs.Keeps.{AreApart, IsWhole, places_of}
 use Rattle.ch_space.specs.Pieces.{instances}
@@ -16,6 +15,7 @@ use Rattle.ch_space.specs.Renumbered.{AreRanks, all_placed, next_places, placed}
 use Rattle.ch_space.proofs.ClosedPieces.{map_placed, rank_length}
 use Rattle.ch_space.proofs.PlacesInOrder.{pieces_after, rank_before, rank_here, rank_small, rank_there, ranks_count, ranks_more, so_many}
 use Rattle.ch_timed.specs.Closed.{ranks}
+use Rattle.ch_timed.proofs.Orders.{ordered_length}
 
 abbrev pub wides : List Part → List Piece
 wides parts = map wide_part parts
@@ -77,13 +77,13 @@ filter_shorter test (p ∷ ps) = kept_shorter (test p) p ps (filter test ps) (fi
 pub few_parts : (cs : List Candidate) (parts : List Part) → AreParts cs parts → length cs ≤ 2 ^ 20 → length parts ≤ 2097152
 few_parts cs parts a h =
     let e = sym (length-map parts wide_part) ∙ ap length a.are in
-    let s = ordered_shorter places_of (filter has_instance (map wide cs)) in
+    let s = ordered_length places_of (filter has_instance (map wide cs)) in
     let f = filter_shorter has_instance (map wide cs) in
     let m = length-map cs wide in
     omega arith
 
-pub parts_apart : (cs : List Candidate) (parts lent : List Part) → AreParts cs parts → All (λ c. IsWhole (wide c)) cs → lent ≡ parts → AreApart (wides lent)
-parts_apart cs parts lent a w e = subst (λ z. AreApart (wides z)) (sym e) (subst AreApart (sym a.are) (assembled_apart cs w))
+pub parts_apart : (cs : List Candidate) (parts lent : List Part) → AreParts cs parts → All (λ c. IsWhole (wide c)) cs → PlacesDiffer cs → lent ≡ parts → AreApart (wides lent)
+parts_apart cs parts lent a w d e = subst (λ z. AreApart (wides z)) (sym e) (subst AreApart (sym a.are) (assembled_apart cs w d))
 
 -- a piece placed twice has the last places
 placed_over : (parts : List Part) (closed : List (List ℕ)) → length closed ≡ length parts → all_placed (map (λ p. p.piece) parts) closed ≡ all_placed (wides parts) closed

@@ -1,5 +1,5 @@
 -- Candidates for the pieces that a command leaves.
-use Rattle.std.specs.Prelude.{◌≡◌, ℕ, ℤ, Bool, true, not, ◌&&◌, ◌||◌, IfSome, List, length, map}
+use Rattle.std.specs.Prelude.{◌≡◌, ◌≢◌, ℕ, ℤ, Bool, true, not, ◌&&◌, ◌||◌, IfSome, List, length, map}
 use Rattle.std.specs.List.{All, filter, flat_map}
 use Rattle.ch_pieces.specs.declared.candidate.Candidate.{Candidate}
 use Rattle.ch_pieces.specs.Assembled.{has_instance, wide}
@@ -7,7 +7,7 @@ use Rattle.ch_space.specs.declared.piece.Piece.{Piece}
 use Rattle.ch_space.specs.Keeps.{IsLimited, IsWhole, places_of}
 use Rattle.ch_space.specs.Pieces.{elements, instances}
 use Rattle.ch_timed.specs.declared.element.Element.{Element}
-use Rattle.ch_timed.specs.Members.{In}
+use Rattle.ch_timed.specs.Members.{In, Pairwise}
 use Rattle.ch_timed.specs.Timed.{step}
 use Rattle.ch_timed.specs.Vectors.{begins_with, same_numbers}
 
@@ -35,8 +35,7 @@ pub record AreCandidates (change : Element → Element) (list : List Element) (w
   pub whole : All (λ c. IsWhole (wide c)) cs
   pub known : All IsKnown cs
   -- those with instances stand at different places, and no places are the front of others
-  pub differ : (q r : Piece) → In q (filter has_instance (map wide cs)) → In r (filter has_instance (map wide cs))
-      → places_of q ≡ places_of r → q ≡ r
+  pub differ : Pairwise (λ q r. places_of q ≢ places_of r) (filter has_instance (map wide cs))
   pub apart : (q r : Piece) → In q (map wide cs) → In r (map wide cs) → stand_apart (places_of q) (places_of r) ≡ true
   pub executes : (q : Piece) → In q (map wide cs) → ExecutesOne list q
   -- each element goes to one of theirs, and each of theirs comes from one

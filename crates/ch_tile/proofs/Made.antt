@@ -193,7 +193,8 @@ module _ (s l t j arrays w c : ℕ) (ps qs : List Piece) (counts : List ℕ) (te
       space.some_weight space.small_weight
 
   pub made_list : closed_up (listed qs) ≡ tiled (listed ps) (pos s) (pos (suc l)) (pos t) (pos (suc j))
-  made_list = ap closed_up (replaced_list (tiled_places (suc j) base) (tiled_where (shares (suc j) base) l t j) w (c + 1) ps qs space.apart ordered every)
+  made_list =
+      ap closed_up (replaced_list (tiled_places (suc j) base) (tiled_where (shares (suc j) base) l t j) (keeps_steps (shares (suc j) base) l t j) w (c + 1) arrays ps qs counts temps w c space every ordered)
 
   -- the same steps are executed
   pub made_among : c < most_commands → AreAmong (listed ps) (closed_up (listed qs))

@@ -1,7 +1,7 @@
 -- The candidates of an unrolled loop have the elements of the list, moved.
-use Rattle.std.proofs.Common.{◌≡◌, refl, sym, ap, ap₂, ◌∙◌, subst, ℕ, suc, ◌+◌, ◌-◌, ◌*◌, ◌<◌, ◌≤◌, ◌^◌, ℤ, pos, ◌+ℤ◌, ◌*ℤ◌, Bool, true, false, cond, List, [], ◌∷◌, ◌++◌, length, map, take, get_or, set, inl, inr, ◌⊎◌, arith}
+use Rattle.std.proofs.Common.{◌≡◌, ◌≢◌, refl, sym, ap, ap₂, ◌∙◌, subst, ℕ, suc, ◌+◌, ◌-◌, ◌*◌, ◌<◌, ◌≤◌, ◌^◌, ℤ, pos, ◌+ℤ◌, ◌*ℤ◌, Bool, true, false, cond, List, [], ◌∷◌, ◌++◌, length, map, take, get_or, set, inl, inr, ◌⊎◌, arith}
 use Rattle.std.specs.Int.{int_div_euclid, int_rem_euclid}
-use Rattle.std.specs.List.{All, filter, flat_map}
+use Rattle.std.specs.List.{All, flat_map}
 use Rattle.std.specs.Option.{IfSome}
 use Rattle.std.proofs.lemmas.Bool.{cases_eq}
 use Rattle.std.proofs.lemmas.Int.{ints}
@@ -13,21 +13,22 @@ use Rattle.ch_moved.proofs.Limits.{more_limits}
 use Rattle.ch_moved.proofs.Replaced.{places_apart, same_apart, turned}
 use Rattle.ch_moved.proofs.Taken.{PlacesApart}
 use Rattle.ch_moved.proofs.Values.{lies_length}
-use Rattle.ch_pieces.specs.Assembled.{has_instance, wide}
+use Rattle.ch_pieces.specs.Assembled.{wide}
 use Rattle.ch_pieces.specs.Candidates.{AreCandidates, ExecutesOne, IsKnown, stand_apart}
 use Rattle.ch_pieces.specs.declared.candidate.Candidate.{Candidate}
+use Rattle.ch_pieces.proofs.Spaces.{pairwise_append, places_differ}
 use Rattle.ch_space.specs.declared.piece.Piece.{Piece}
 use Rattle.ch_space.specs.Keeps.{AreApart, IsLimited, IsSpace, IsWhole, places_of}
 use Rattle.ch_space.specs.Pieces.{element_at, elements, instances, listed}
 use Rattle.ch_space.specs.Renumbered.{placed}
 use Rattle.ch_space.proofs.Counted.{box_points_lie}
 use Rattle.ch_space.proofs.EndsOf.{at_all}
-use Rattle.ch_space.proofs.Membership.{append_left, append_right, box_points_in, flat_in, in_append, in_filter, in_flat, in_instances}
-use Rattle.ch_space.proofs.PieceElements.{element_places, element_values, later_in, length_pos, levels_of, never, whole_in}
+use Rattle.ch_space.proofs.Membership.{append_left, append_right, box_points_in, flat_in, in_append, in_flat, in_instances}
+use Rattle.ch_space.proofs.PieceElements.{each_from_in, element_places, element_values, later_in, length_pos, levels_of, never, whole_in}
 use Rattle.ch_space.proofs.PieceNumbers.{all_in, in_listed, instance_in, listed_in, some_in}
 use Rattle.ch_timed.specs.declared.element.Element.{Element}
 use Rattle.ch_timed.specs.Closed.{at_vector}
-use Rattle.ch_timed.specs.Members.{In}
+use Rattle.ch_timed.specs.Members.{In, Pairwise}
 use Rattle.ch_timed.specs.Timed.{step}
 use Rattle.ch_timed.specs.Vectors.{places, shares, woven}
 use Rattle.ch_timed.proofs.Orders.{in_map, map_in}
@@ -224,6 +225,9 @@ pub record SameStatement (p q : Piece) : Type 0 where
   pub body : q.body ≡ p.body
   pub iterators : length q.origin ≡ length p.origin
 
+abbrev AllApart : List Candidate → Type 0
+AllApart = Pairwise (λ c d. places_of (wide c) ≢ places_of (wide d))
+
 module _ (u : Layout) (ours : List ℤ) (ps : List Piece) (a : AreApart ps) (fine : All (ArePlaced u ours) ps)
     (deep : (p : Piece) → In p ps → shares u.level ours (places_of p) ≡ true → shares u.behind ours (places_of p) ≡ true) where
   placed_at : (p : Piece) → In p ps → shares u.level ours (places_of p) ≡ true → IsPlaced u p
@@ -268,7 +272,7 @@ module _ (u : Layout) (ours : List ℤ) (ps : List Piece) (a : AreApart ps) (fin
       let x = some_in (instances p) (instance_in ps p a h.is_piece) in
       record {
         element = element_at p x.0;
-        is_element = listed_in ps p (element_at p x.0) a h.is_piece (map_in (element_at p) (instances p) x.0 x.1);
+        is_element = listed_in ps p (element_at p x.0) h.is_piece (map_in (element_at p) (instances p) x.0 x.1);
         label = s.label;
         body = s.body;
         iterators = s.iterators ∙ sym (length-map p.origin _);
@@ -331,7 +335,7 @@ module _ (u : Layout) (ours : List ℤ) (ps : List Piece) (a : AreApart ps) (fin
       | inr e ↦ subst (λ z. apart (places_of (wide c)) z ≡ true) e.0 (same_apart (places_of (wide c)))
     ]
 
-    -- candidates of one piece at the same places are the same
+    -- no two candidates stand at the same places
 
     not_same : (p : Piece) (k : ℕ) (cs : List Candidate) (c d : Candidate) → IsPlaced u p → IsTurn u p k c → AreTurns u p (suc k) cs → In d cs → places_of (wide c) ≡ places_of (wide d) → ⊥
     not_same p k cs c d w h t i e =
@@ -348,35 +352,20 @@ module _ (u : Layout) (ours : List ℤ) (ps : List Piece) (a : AreApart ps) (fin
         let l = s.1.0 in
         omega arith
 
-    turns_same : (p : Piece) (k : ℕ) (cs : List Candidate) (c d : Candidate) → IsPlaced u p → AreTurns u p k cs → In c cs → In d cs → places_of (wide c) ≡ places_of (wide d) → c ≡ d
-    turns_same p k [] c d w t i j e = absurd i
-    turns_same p k (f ∷ cs) c d w t (inl i) (inl j) e = sym i ∙ j
-    turns_same p k (f ∷ cs) c d w t (inr i) (inr j) e = turns_same p (suc k) cs c d w t.1 i j e
-    turns_same p k (f ∷ cs) c d w t (inl i) (inr j) e = absurd (not_same p k cs c d w (subst (IsTurn u p k) i t.0) t.1 j e)
-    turns_same p k (f ∷ cs) c d w t (inr i) (inl j) e = absurd (not_same p k cs d c w (subst (IsTurn u p k) j t.0) t.1 i (sym e))
+    turns_differ : (p : Piece) (k : ℕ) (cs : List Candidate) → IsPlaced u p → AreTurns u p k cs → AllApart cs
+    turns_differ p k [] w t = tt
+    turns_differ p k (c ∷ cs) w t = (each_from_in (λ d. places_of (wide c) ≢ places_of (wide d)) cs (λ d i. not_same p k cs c d w t.0 t.1 i), turns_differ p (suc k) cs w t.1)
 
-    one_of_each : (b : Bool) (p : Piece) (cs : List Candidate) (c d : Candidate) → (b ≡ true → IsPlaced u p) → Becomes b u p cs → In c cs → In d cs → places_of (wide c) ≡ places_of (wide d) → c ≡ d
-    one_of_each true p cs c d w h i j e = turns_same p 0 cs c d (w refl) h.are i j e
-    one_of_each false p cs c d w h i j e = only c (subst (In c) h.is i) ∙ sym (only d (subst (In d) h.is j))
-      where
-        only : (x : Candidate) → In x (h.one ∷ []) → x ≡ h.one
-        only x (inl g) = sym g
-        only x (inr g) = absurd g
+    pieces_differ : (b : Bool) (p : Piece) (cs : List Candidate) → (b ≡ true → IsPlaced u p) → Becomes b u p cs → AllApart cs
+    pieces_differ true p cs w h = turns_differ p 0 cs (w refl) h.are
+    pieces_differ false p cs w h = subst AllApart (sym h.is) (tt, tt)
 
-    -- so are all candidates at the same places
-    differ_from : (qs : List Piece) (cs : List Candidate) (c d : Candidate) → ((q : Piece) → In q qs → In q ps) → AreApart qs → AllBecome u ours qs cs → In c cs → In d cs → places_of (wide c) ≡ places_of (wide d) → c ≡ d
-    differ_from [] cs c d s b h i j e = absurd (subst (In c) h i)
-    differ_from (q ∷ qs) cs c d s b h i j e =
-        elim (in_append h.first h.rest c (subst (In c) h.is i)) as (λ _. c ≡ d) [
-          | inl k ↦ elim (in_append h.first h.rest d (subst (In d) h.is j)) as (λ _. c ≡ d) [
-            | inl l ↦ one_of_each (shares u.level ours (places_of q)) q h.first c d (placed_at q (s q (inl refl))) h.are k l e
-            | inr l ↦ absurd (away c d k l e)
-          ]
-          | inr k ↦ elim (in_append h.first h.rest d (subst (In d) h.is j)) as (λ _. c ≡ d) [
-            | inl l ↦ absurd (away d c l k (sym e))
-            | inr l ↦ differ_from qs h.rest c d (λ z y. s z (inr y)) b.3 h.rest_are k l e
-          ]
-        ]
+    differ_from : (qs : List Piece) (cs : List Candidate) → ((q : Piece) → In q qs → In q ps) → AreApart qs → AllBecome u ours qs cs → AllApart cs
+    differ_from [] cs s b h = subst AllApart (sym h) tt
+    differ_from (q ∷ qs) cs s b h =
+        subst AllApart (sym h.is)
+        (pairwise_append (λ c d. places_of (wide c) ≢ places_of (wide d)) h.first h.rest (pieces_differ (shares u.level ours (places_of q)) q h.first (placed_at q (s q (inl refl))) h.are)
+        (differ_from qs h.rest (λ z y. s z (inr y)) b.3 h.rest_are) away)
       where
         away : (x y : Candidate) → In x h.first → In y h.rest → places_of (wide x) ≡ places_of (wide y) → ⊥
         away x y k l f =
@@ -440,17 +429,9 @@ module _ (u : Layout) (ours : List ℤ) (arrays : ℕ) (ps : List Piece) (counts
       let h = come c.0 c.1.0 in
       let x = back_by (shares u.level ours (places_of h.piece)) h.piece c.0 f refl h.is_piece h.how (subst (λ z. In f (elements z)) (sym c.1.1) q.1.1) in (
         element_at h.piece x.0,
-        listed_in ps h.piece (element_at h.piece x.0) space.apart h.is_piece (map_in (element_at h.piece) (instances h.piece) x.0 x.1.0),
+        listed_in ps h.piece (element_at h.piece x.0) h.is_piece (map_in (element_at h.piece) (instances h.piece) x.0 x.1.0),
         moves_at h.piece x.0 h.is_piece x.1.0 ∙ x.1.1,
       )
-
-  differ_of : (q r : Piece) → In q (filter has_instance (map wide cs)) → In r (filter has_instance (map wide cs)) → places_of q ≡ places_of r → q ≡ r
-  differ_of q r i j e =
-      let c = in_map wide cs q (in_filter has_instance (map wide cs) q i).0 in
-      let d = in_map wide cs r (in_filter has_instance (map wide cs) r j).0 in
-      sym c.1.1
-      ∙ ap wide (differ_from u ours ps space.apart fine deep far ps cs c.0 d.0 (λ p k. k) space.apart become c.1.0 d.1.0 (ap places_of c.1.1 ∙ e ∙ sym (ap places_of d.1.1)))
-      ∙ d.1.1
 
   apart_all : (q r : Piece) → In q (map wide cs) → In r (map wide cs) → stand_apart (places_of q) (places_of r) ≡ true
   apart_all q r i j =
@@ -467,7 +448,7 @@ module _ (u : Layout) (ours : List ℤ) (arrays : ℕ) (ps : List Piece) (counts
     steps = λ e. keeps_by (shares u.level ours (places e.vector)) e _;
     whole = all_in (λ c. IsWhole (wide c)) cs (λ c i. whole_of u ours ps space.apart fine deep c (come c i));
     known = all_in IsKnown cs (λ c i. known_of u ours ps space.apart fine deep c (come c i));
-    differ = differ_of;
+    differ = places_differ cs (differ_from u ours ps space.apart fine deep far ps cs (λ p k. k) space.apart become);
     apart = apart_all;
     executes = executes_all;
     forth = forth_of;

@@ -1,15 +1,16 @@
 use Rattle.std.proofs.Common.{◌∙◌, sym, ap, subst, length, []}
 use Rattle.ch_code.specs.Trace.{trace}
 use Rattle.ch_code.specs.UnitParts.{unit_of}
-use Rattle.ch_space.specs.Pieces.{listed}
 use Rattle.ch_codegen.specs.Formed.{IsFormed}
+use Rattle.ch_codegen.specs.Parts.{Lists}
 use Rattle.ch_codegen.proofs.Listed.{all_listed}
 use Rattle.ch_codegen.proofs.Whole.{is_unit}
 use Rattle.ch_codegen.proofs.generator.generate.Goals as goal
 
 pub returns-clause-trace : goal.returns-clause-trace
 returns-clause-trace c =
-    all_listed c.as_slice-pieces.result.now (trace c.in_ok-root.root) c.in_ok-root.ensures.lists ∙ ap listed c.as_slice-pieces.ensures ∙ ap (λ z. z.list) c.s.view_is
+    all_listed c.s.inside.pieces (trace c.in_ok-root.root) c.s.invariant.apart (subst (λ ps. Lists [] ps (trace c.in_ok-root.root)) c.as_slice-pieces.ensures c.in_ok-root.ensures.lists)
+    ∙ ap (λ z. z.list) c.s.view_is
 
 pub invariant_of-result : goal.invariant_of-result
 invariant_of-result c =
@@ -17,4 +18,4 @@ invariant_of-result c =
     let temps = ap length (sym (c.in_ok-temps.ensures ∙ c.as_slice-2.ensures)) in
     is_unit (unit_of c.in_ok-root.root c.in_ok-arrays.arrays c.in_ok-temps.temps) c.s.inside.arrays (length c.s.inside.temps) c.s.inside.pieces arrays temps
     c.s.invariant.bodies c.s.invariant.near (subst (λ ps. IsFormed [] ps c.in_ok-root.root) c.as_slice-pieces.ensures c.in_ok-root.ensures.formed)
-    (all_listed c.as_slice-pieces.result.now (trace c.in_ok-root.root) c.in_ok-root.ensures.lists ∙ ap listed c.as_slice-pieces.ensures)
+    (all_listed c.s.inside.pieces (trace c.in_ok-root.root) c.s.invariant.apart (subst (λ ps. Lists [] ps (trace c.in_ok-root.root)) c.as_slice-pieces.ensures c.in_ok-root.ensures.lists))

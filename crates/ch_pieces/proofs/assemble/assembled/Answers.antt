@@ -4,7 +4,7 @@ use Rattle.ch_pieces.proofs.assemble.assembled.Goals as goal
 
 pub closed_places-requires-clause-apart : goal.closed_places-requires-clause-apart
 closed_places-requires-clause-apart c =
-    parts_apart c.args.candidates c.in_ok-parts.parts.items c.as_slice.result.now c.in_ok-parts.ensures c.requires.whole c.as_slice.ensures.value
+    parts_apart c.args.candidates c.in_ok-parts.parts.items c.as_slice.result.now c.in_ok-parts.ensures c.requires.whole c.requires.differ c.as_slice.ensures.value
 
 pub closed_places-requires-clause-few : goal.closed_places-requires-clause-few
 closed_places-requires-clause-few c =
