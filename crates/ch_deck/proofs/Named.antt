@@ -8,7 +8,7 @@ use Rattle.ch_lex.specs.declared.keyword.Keyword.{Keyword}
 use Rattle.ch_lex.specs.declared.keyword.Keyword.TheVariants as words
 use Rattle.ch_lex.specs.declared.token.Sign.TheVariants as signs
 use Rattle.ch_lex.specs.declared.token.Token.{Token}
-use Rattle.ch_nest.specs.Limits.{deepest}
+use Rattle.ch_nest.specs.Limits.{deepest, most_conditions}
 use Rattle.ch_nestparse.specs.Declarations.{arrays_at, lets_at}
 use Rattle.ch_nestparse.specs.Items.{item_at, items_at}
 use Rattle.ch_nestparse.specs.declared.ahead.Look.{Look}
@@ -52,7 +52,7 @@ section_named bytes ts =
     post_bind (post_any (sign_at bytes P1 signs.LeftBrace name.1)) (λ inside c.
     post_bind (post_any (lets_at bytes inside)) (λ lets d.
     post_bind (post_any (arrays_at bytes lets.0 lets.1)) (λ declared e.
-    post_bind (post_any (items_at bytes (item_at bytes deepest declared.0.names []) ([], 0) declared.1)) (λ items f.
+    post_bind (post_any (items_at bytes (item_at bytes most_conditions deepest declared.0.names []) ([], 0) declared.1)) (λ items f.
     post_ok (λ r. Named bytes (drop 1 ts) r.0.name)
     (record { name = name.0; nest = record { arrays = declared.0.arrays; items = items.0.0 }; fills = declared.0.fills; accesses = accesses_in bytes (before items.1 declared.1) }, items.1)
     (subst (λ w. Named bytes w name.0) a b)))))))

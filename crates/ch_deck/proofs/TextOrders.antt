@@ -10,12 +10,12 @@ use Rattle.ch_nest.specs.declared.nest.Expr.{Expr, map-Expr}
 use Rattle.ch_nest.specs.declared.nest.Expr.TheOpen.{Expr-F}
 use Rattle.ch_nest.specs.declared.nest.Expr.TheFolds.{fold-roll-Expr, ind-Expr}
 use Rattle.ch_nest.specs.declared.nest.Item.{Item}
-use Rattle.ch_nest.specs.declared.nest.Item.TheVariants.{Loop, Assign}
+use Rattle.ch_nest.specs.declared.nest.Item.TheVariants.{Loop, If, Assign}
 use Rattle.ch_nest.specs.declared.nest.Item.TheFolds.{fold-Item}
 use Rattle.ch_nestparse.specs.TextOrder as text
-use Rattle.ch_nestparse.proofs.ItemsFit.{fold_assign, fold_loop}
+use Rattle.ch_nestparse.proofs.ItemsFit.{fold_assign, fold_if, fold_loop}
 use Rattle.ch_space.specs.Judged.{bodies, bodies_of, text_accesses}
-use Rattle.ch_space.proofs.Subscripted.{assign_bodies, loop_bodies}
+use Rattle.ch_space.proofs.Subscripted.{assign_bodies, if_bodies, loop_bodies}
 use Rattle.ch_timed.specs.Conflict.{reads, reads_step}
 use Rattle.ch_timed.specs.Members.{Each}
 use Rattle.ch_timed.proofs.ItemCases.{each_item}
@@ -64,9 +64,12 @@ each_same : (items : List Item) → Each SameOrder items → text.text_accesses 
 each_same [] h = refl
 each_same (i ∷ is) h = ap₂ (λ (xs ys : List Access). xs ++ ys) h.0 (each_same is h.1) ∙ sym (flat_both (bodies_of i) (bodies is))
 
-same_loop : (lows highs : List Form) (items : List Item) → Each SameOrder items → SameOrder (Loop lows highs items)
-same_loop lows highs items h =
-    fold_loop text.accesses_step lows highs items ∙ each_same items h ∙ sym (ap (flat_map text_accesses) (loop_bodies lows highs items))
+same_loop : (lows highs : List Form) (step : ℕ) (items : List Item) → Each SameOrder items → SameOrder (Loop lows highs step items)
+same_loop lows highs step items h =
+    fold_loop text.accesses_step lows highs step items ∙ each_same items h ∙ sym (ap (flat_map text_accesses) (loop_bodies lows highs step items))
+
+same_if : (row : Form) (items : List Item) → Each SameOrder items → SameOrder (If row items)
+same_if row items h = fold_if text.accesses_step row items ∙ each_same items h ∙ sym (ap (flat_map text_accesses) (if_bodies row items))
 
 same_assign : (label : ℕ) (body : Body) → SameOrder (Assign label body)
 same_assign label body =
@@ -75,4 +78,4 @@ same_assign label body =
 
 -- the accesses in the order of the text are those of the statements, in their order, the write before the reads
 pub text_order : (items : List Item) → text.text_accesses items ≡ flat_map text_accesses (bodies items)
-text_order items = each_same items (each_item SameOrder same_loop same_assign items)
+text_order items = each_same items (each_item SameOrder same_loop same_if same_assign items)

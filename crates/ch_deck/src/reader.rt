@@ -37,7 +37,7 @@ fn judged(alloc: Global, bytes: &[u8], found: List<Found>) -> Result<Deck, DeckE
 }
 
 /// The deck that these bytes are, or its first refusal: too many bytes (D10), then a byte that begins no token (L1 to L3), then the
-/// first token that doesn't fit (P1 to P6, A1, D8, D1, D3, D6, and Z2 where a section begins that isn't read yet), then the first
+/// first token that doesn't fit (P1 to P7, A1, D8, D1, D3, D6, and Z2 where a section begins that isn't read yet), then the first
 /// program that can't be run (S1, S2).
 #[tactic(auto, unfolding(crate::specs::Decks::deck_of))]
 pub fn read_deck(alloc: Global, bytes: &[u8]) -> Result<Deck, DeckError>

@@ -1,3 +1,4 @@
+pub mod Conducts
 pub mod Lines
 pub mod OneWord
 pub mod Outs

@@ -5,7 +5,7 @@ use Rattle.std.specs.List.{list_all}
 use Rattle.std.proofs.lemmas.Bool.{and_parts, leb-true}
 use Rattle.std.proofs.lemmas.List.{drop_more}
 use Rattle.ch_nest.specs.declared.nest.ArrayDecl.{ArrayDecl}
-use Rattle.ch_nest.specs.Arrays.{cells_in, total}
+use Rattle.ch_nest.specs.Arrays.{cells_in, extents_of, total}
 use Rattle.ch_nest.specs.Shape.{arrays_fit, is_array}
 use Rattle.ch_nest.proofs.Places.{extents_some}
 use Rattle.ch_run.specs.EvalText.{array_line, array_lines}
@@ -16,7 +16,7 @@ lines_more ds k d rest out next whole n l e f h =
     let a = rw (drop_more ds k d l, ← e) at h in
     rw f (append_assoc out (array_line (get_or ds k d) (take n rest)) (array_lines (drop (k + 1) ds) (drop n rest)) ∙ a)
 
-most_at : (ds : List ArrayDecl) (k : ℕ) (d : ArrayDecl) → k < length ds → cells_in (get_or ds k d).extents ≤ total ds
+most_at : (ds : List ArrayDecl) (k : ℕ) (d : ArrayDecl) → k < length ds → cells_in (get_or ds k d).extents ≤ total (extents_of ds)
 most_at [] k d l = absurd (omega arith)
 most_at (x ∷ ds) zero d l = omega arith
 most_at (x ∷ ds) (suc k) d l = omega (arith, most_at ds k d (omega arith))
@@ -24,8 +24,8 @@ most_at (x ∷ ds) (suc k) d l = omega (arith, most_at ds k d (omega arith))
 pub few_at : (ds : List ArrayDecl) (k : ℕ) (d : ArrayDecl) → k < length ds → IsTrue (arrays_fit ds) → cells_in (get_or ds k d).extents ≤ 2 ^ 40
 few_at ds k d l f =
     let m = most_at ds k d l in
-    let s : total ds ≤ 262144 = leb-true _ _ ((and_parts (list_all is_array ds) (nat_le (total ds) 262144) f).1) in
+    let s : total (extents_of ds) ≤ 262144 = leb-true _ _ ((and_parts (list_all is_array ds) (nat_le (total (extents_of ds)) 262144) f).1) in
     omega (arith, m, s)
 
 pub some_at : (ds : List ArrayDecl) (k : ℕ) (d : ArrayDecl) → k < length ds → IsTrue (arrays_fit ds) → IsTrue (list_all (nat_le 1) (get_or ds k d).extents)
-some_at ds k d l f = extents_some ds k d l ((and_parts (list_all is_array ds) (nat_le (total ds) 262144) f).0)
+some_at ds k d l f = extents_some ds k d l ((and_parts (list_all is_array ds) (nat_le (total (extents_of ds)) 262144) f).0)

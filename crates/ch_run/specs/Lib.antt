@@ -3,3 +3,4 @@ pub mod Added
 pub mod EvalText
 pub mod ShowText
 pub mod Answers
+pub mod Conduct

@@ -5,6 +5,7 @@ ghost use Rattle.ch_io.specs.Faults.{HasRisen};
 ghost use Rattle.ch_io.specs.Streams.{AppendsPart};
 ghost use Rattle.ch_run.specs.Answers.{Answers, AnswersInPart, most_read};
 ghost use Rattle.ch_run.specs.Commands.{command_of, usage};
+ghost use Rattle.ch_run.specs.Conduct.{Conduct, standing};
 
 use crate::answers::answer_to;
 use crate::words::{Command, command_of};
@@ -66,36 +67,17 @@ fn carried_out<S: Source, K: Sink>(
 /// `words` are those after the program's name. The status is 0 where the text was written, 1 where the refusal of the
 /// input was, 2 where the words are none of a command (the usage line was written, and nothing was read), 3 where a read
 /// failed, 4 where a write failed, and 5 where there was not enough memory.
+#[tactic(auto, using(crate::proofs::Conducts::told_usage, crate::proofs::Conducts::carried))]
 pub fn still<S: Source, K: Sink>(
     alloc: Global,
     words: &[String],
     source: &mut S,
     sink: &mut K,
 ) -> u8
-    ensures known { result ≤ 5 }
-
-    // What was written at 0 and 1, and which of the two it is.
-    ensures answer { result ≤ 1 → IfSome (command_of (map string_bytes words.now)) (λ c. IfSome (S.left source.old) (λ bytes. Answers c bytes (K.taken sink.old) (K.taken sink.new) result)) }
-    // All of the input was read, but what is past the limit by more than a byte.
-    ensures read { result ≤ 1 → IfSome (S.left source.old) (λ bytes. S.left source.new ≡ Some (drop most_read bytes)) }
-
-    // The usage line comes exactly for words that call for no command, and then nothing is read.
-    ensures usage { result ≡ 2 → Appends (K.taken sink.old) (K.taken sink.new) usage }
-    ensures other_words { result ≡ 2 → command_of (map string_bytes words.now) ≡ None }
-    ensures usable_words { command_of (map string_bytes words.now) ≡ None → (result ≡ 2) ⊎ (result ≡ 4) }
+    ensures conduct { Conduct (map string_bytes words.now)
+        (standing (S.left source.old) (S.faults source.old) (K.taken sink.old) (K.faults sink.old))
+        (standing (S.left source.new) (S.faults source.new) (K.taken sink.new) (K.faults sink.new)) result }
     ensures unread { command_of (map string_bytes words.now) ≡ None → source.new ≡ source.old }
-
-    // A failed read.
-    ensures read_fault { result ≡ 3 → HasRisen (S.faults source.old) (S.faults source.new) }
-    ensures read_nothing { result ≡ 3 → K.taken sink.new ≡ K.taken sink.old }
-
-    // A failed write, and the front of the text that was written before it.
-    ensures write_fault { result ≡ 4 → HasRisen (K.faults sink.old) (K.faults sink.new) }
-    ensures write_part { result ≡ 4 → IfSome (command_of (map string_bytes words.now)) (λ c. IfSome (S.left source.old) (λ bytes. AnswersInPart c bytes (K.taken sink.old) (K.taken sink.new))) }
-    ensures usage_part { result ≡ 4 → command_of (map string_bytes words.now) ≡ None → AppendsPart (K.taken sink.old) (K.taken sink.new) usage }
-
-    // Want of memory.
-    ensures memory { result ≡ 5 → K.taken sink.new ≡ K.taken sink.old }
 {
     match command_of(words) {
         None => write_usage(sink),
@@ -114,30 +96,10 @@ pub fn top<R: Threads + Wait + Sync, S: Source, K: Sink, G: Gate + Sync>(
     sink: &mut K,
     gate: &G,
 ) -> u8
-    ensures known { result ≤ 5 }
-
-    // What was written at 0 and 1, and which of the two it is.
-    ensures answer { result ≤ 1 → IfSome (command_of (map string_bytes words.now)) (λ c. IfSome (S.left source.old) (λ bytes. Answers c bytes (K.taken sink.old) (K.taken sink.new) result)) }
-    // All of the input was read, but what is past the limit by more than a byte.
-    ensures read { result ≤ 1 → IfSome (S.left source.old) (λ bytes. S.left source.new ≡ Some (drop most_read bytes)) }
-
-    // The usage line comes exactly for words that call for no command, and then nothing is read.
-    ensures usage { result ≡ 2 → Appends (K.taken sink.old) (K.taken sink.new) usage }
-    ensures other_words { result ≡ 2 → command_of (map string_bytes words.now) ≡ None }
-    ensures usable_words { command_of (map string_bytes words.now) ≡ None → (result ≡ 2) ⊎ (result ≡ 4) }
+    ensures conduct { Conduct (map string_bytes words.now)
+        (standing (S.left source.old) (S.faults source.old) (K.taken sink.old) (K.faults sink.old))
+        (standing (S.left source.new) (S.faults source.new) (K.taken sink.new) (K.faults sink.new)) result }
     ensures unread { command_of (map string_bytes words.now) ≡ None → source.new ≡ source.old }
-
-    // A failed read.
-    ensures read_fault { result ≡ 3 → HasRisen (S.faults source.old) (S.faults source.new) }
-    ensures read_nothing { result ≡ 3 → K.taken sink.new ≡ K.taken sink.old }
-
-    // A failed write, and the front of the text that was written before it.
-    ensures write_fault { result ≡ 4 → HasRisen (K.faults sink.old) (K.faults sink.new) }
-    ensures write_part { result ≡ 4 → IfSome (command_of (map string_bytes words.now)) (λ c. IfSome (S.left source.old) (λ bytes. AnswersInPart c bytes (K.taken sink.old) (K.taken sink.new))) }
-    ensures usage_part { result ≡ 4 → command_of (map string_bytes words.now) ≡ None → AppendsPart (K.taken sink.old) (K.taken sink.new) usage }
-
-    // Want of memory.
-    ensures memory { result ≡ 5 → K.taken sink.new ≡ K.taken sink.old }
 {
     let _ = rt;
     let _ = gate;

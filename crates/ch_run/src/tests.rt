@@ -70,48 +70,6 @@ for (i = max(0, n); i <= min(3, 2*1); i++) B[3 - i] = -(n + i)*2; }",
 }
 
 #[test]
-fn faulty_decks_are_refused_with_their_first_fault(rt: HostRuntime) -> Result<(), Fail> {
-    let cases: [(&[u8], &[u8]); 10] = [
-        (b"program p {", b"refused P1 at 1:12\n"),
-        (b"program p @", b"refused L2 at 1:11\n"),
-        (b"\x80", b"refused L1 at 1:1\n"),
-        (
-            b"program p { array A[4] = fill(0, 0);\nfor (i = 0; i < 3; i++)\nfor (j = 0; j < 3; j++)\nA[i+j] = 1; }",
-            b"refused S2 at 4:1: S0(2,2) A[4]\n",
-        ),
-        (
-            b"program p { array A[4] = fill(0, 0); for (i = 0; i < 2; i++)\nA[i*i] = 1; }",
-            b"refused P4 at 2:4\n",
-        ),
-        (
-            b"program p { array A[4] = fill(0, 0); for (i = 0; i < 2; i++)\nA[1073741825*i] = 1; }",
-            b"refused A1 at 2:3: 1073741825\n",
-        ),
-        (
-            b"program big { array A[1] = fill(0, 0); for (i = 0; i < 524289; i++) A[0] = A[0] + 1; }",
-            b"refused S1 at 1:9\n",
-        ),
-        (
-            b"program tri { array A[4][4] = fill(0, 0);
-for (i = 0; i < 4; i++) for (j = 0; j < i; j++) A[i][j] = 10*i + j; }
-recipe r(T) { tile(0, 2, T, 1); }",
-            b"refused Z2 at 3:1\n",
-        ),
-        (
-            b"program p { array A[1] = fill(0, 0); A[0] = (((((((((((((((((((((((((((((((((",
-            b"refused P1 at 1:77\n",
-        ),
-        (b"program p { } program p { }", b"refused D3 at 1:23\n"),
-    ];
-    for (deck, text) in cases {
-        let (status, written) = answer(rt.alloc(), "eval", deck)?;
-        assert_eq!(rt; written.as_slice(), text);
-        assert_eq!(rt; status, 1);
-    }
-    Ok(())
-}
-
-#[test]
 fn each_front_of_a_deck_is_read_or_refused(rt: HostRuntime) -> Result<(), Fail> {
     for k in 0..PRODUCT.len() {
         let (status, _) = answer(rt.alloc(), "eval", &PRODUCT[..k])?;
@@ -178,18 +136,6 @@ for (i = 0; i < 2; i++) for (j = 0; j <= i; j++) A[i][j] = 10*i + j; }",
 }
 
 #[test]
-fn show_refuses_what_eval_does(rt: HostRuntime) -> Result<(), Fail> {
-    let deck = b"program p { array A[4] = fill(0, 0);\nA[4] = 1; }".as_slice();
-    let (status, written) = answer(rt.alloc(), "show", deck)?;
-    assert_eq!(rt;
-        written.as_slice(),
-        b"refused S2 at 2:1: S0() A[4]\n".as_slice()
-    );
-    assert_eq!(rt; status, 1);
-    Ok(())
-}
-
-#[test]
 fn an_input_past_the_limit_is_refused_by_its_length(rt: HostRuntime) -> Result<(), Fail> {
     let alloc = rt.alloc();
     let words = words_of(alloc, &["eval"])?;
@@ -198,19 +144,6 @@ fn an_input_past_the_limit_is_refused_by_its_length(rt: HostRuntime) -> Result<(
     let mut sink = MemSink::new(alloc, 64, 64, Vec::new(alloc))?;
     let status = still(alloc, &words, &mut source, &mut sink);
     assert_eq!(rt; sink.taken(), b"refused D10\n".as_slice());
-    assert_eq!(rt; status, 1);
-    Ok(())
-}
-
-#[test]
-fn parentheses_without_a_program_are_refused_at_the_first(rt: HostRuntime) -> Result<(), Fail> {
-    let alloc = rt.alloc();
-    let words = words_of(alloc, &["eval"])?;
-    let parentheses = vec![in alloc; b'('; 1048576]?;
-    let mut source = MemSource::new(parentheses, 1048577, Vec::new(alloc));
-    let mut sink = MemSink::new(alloc, 64, 64, Vec::new(alloc))?;
-    let status = still(alloc, &words, &mut source, &mut sink);
-    assert_eq!(rt; sink.taken(), b"refused D1 at 1:1\n".as_slice());
     assert_eq!(rt; status, 1);
     Ok(())
 }

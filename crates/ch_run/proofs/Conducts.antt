@@ -1,0 +1,68 @@
+-- The conduct of a run, by what its words call for.
+use Rattle.std.proofs.Common.{◌≡◌, ◌≢◌, ◌≤◌, ◌⊎◌, ℕ, List, Option, Some, None, IfSome, drop, subst, sym, inl, inr, arith}
+use Rattle.std.specs.Io.KnownBytes.{Appends}
+use Rattle.ch_io.specs.Faults.{HasRisen}
+use Rattle.ch_io.specs.Streams.{AppendsPart}
+use Rattle.ch_run.specs.Answers.{Answers, AnswersInPart, most_read}
+use Rattle.ch_run.specs.Commands.{command_of, usage}
+use Rattle.ch_run.specs.Conduct.{Conduct, Standing}
+use Rattle.ch_run.specs.declared.words.Command.{Command}
+
+-- the status is none but 2 and 4
+small : (status : ℕ) → (status ≡ 2) ⊎ (status ≡ 4) → status ≤ 5
+small status (inl e) = omega (arith, e)
+small status (inr e) = omega (arith, e)
+
+large : (status : ℕ) → (status ≡ 2) ⊎ (status ≡ 4) → status ≤ 1 → ⊥
+large status (inl e) l = omega (arith, e, l)
+large status (inr e) l = omega (arith, e, l)
+
+no_three : (status : ℕ) → (status ≡ 2) ⊎ (status ≡ 4) → status ≡ 3 → ⊥
+no_three status (inl e) h = omega (arith, e, h)
+no_three status (inr e) h = omega (arith, e, h)
+
+no_five : (status : ℕ) → (status ≡ 2) ⊎ (status ≡ 4) → status ≡ 5 → ⊥
+no_five status (inl e) h = omega (arith, e, h)
+no_five status (inr e) h = omega (arith, e, h)
+
+-- no command: the usage line
+pub told_usage : (words : List (List ℕ)) (old new : Standing) (status : ℕ) → command_of words ≡ None → (status ≡ 2) ⊎ (status ≡ 4)
+    → (status ≡ 2 → Appends old.taken new.taken usage) → (status ≡ 4 → AppendsPart old.taken new.taken usage) → (status ≡ 4 → HasRisen old.writes_failed new.writes_failed)
+    → Conduct words old new status
+told_usage words old new status none known line part cause = record {
+  known = small status known;
+  answer = λ l. absurd (large status known l);
+  read = λ l. absurd (large status known l);
+  usage_line = line;
+  other_words = λ _. none;
+  usable_words = λ _. known;
+  read_fault = λ h. absurd (no_three status known h);
+  read_nothing = λ h. absurd (no_three status known h);
+  write_fault = cause;
+  write_part = λ _. rw none tt;
+  usage_part = λ h _. part h;
+  memory = λ h. absurd (no_five status known h);
+}
+
+some_none : {A : Type 0} (c : A) (o : Option A) → o ≡ Some c → o ≡ None → ⊥
+some_none c o s n = cc
+
+-- a command that was carried out
+pub carried : (words : List (List ℕ)) (c : Command) (old new : Standing) (status : ℕ) → command_of words ≡ Some c → status ≤ 5 → status ≢ 2
+    → (status ≤ 1 → IfSome old.left (λ bytes. Answers c bytes old.taken new.taken status)) → (status ≤ 1 → IfSome old.left (λ bytes. new.left ≡ Some (drop most_read bytes)))
+    → (status ≡ 3 → HasRisen old.reads_failed new.reads_failed) → (status ≡ 3 → new.taken ≡ old.taken) → (status ≡ 4 → HasRisen old.writes_failed new.writes_failed)
+    → (status ≡ 4 → IfSome old.left (λ bytes. AnswersInPart c bytes old.taken new.taken)) → (status ≡ 5 → new.taken ≡ old.taken) → Conduct words old new status
+carried words c old new status some known other answer read read_fault read_nothing write_fault write_part memory = record {
+  known = known;
+  answer = λ l. rw some (answer l);
+  read = read;
+  usage_line = λ h. absurd (other h);
+  other_words = λ h. absurd (other h);
+  usable_words = λ none. absurd (some_none c (command_of words) some none);
+  read_fault = read_fault;
+  read_nothing = read_nothing;
+  write_fault = write_fault;
+  write_part = λ h. rw some (write_part h);
+  usage_part = λ h none. absurd (some_none c (command_of words) some none);
+  memory = memory;
+}

@@ -1,0 +1,41 @@
+-- What a run does to its input and its output, by the status that it answers.
+use Rattle.std.specs.Prelude.{◌≡◌, ◌≢◌, ◌≤◌, ◌⊎◌, ℕ, List, Option, Some, None, IfSome, drop}
+use Rattle.std.specs.Io.KnownBytes.{Appends}
+use Rattle.ch_io.specs.Faults.{HasRisen}
+use Rattle.ch_io.specs.Streams.{AppendsPart}
+use Rattle.ch_run.specs.Answers.{Answers, AnswersInPart, most_read}
+use Rattle.ch_run.specs.Commands.{command_of, usage}
+
+-- What is known of the streams at a time: the bytes that are left to read and those that were taken, where they are told, and
+-- how many calls have failed on either side.
+pub record Standing : Type 0 where
+  pub left : Option (List ℕ)
+  pub reads_failed : ℕ
+  pub taken : Option (List ℕ)
+  pub writes_failed : ℕ
+
+-- of a source that tells this, and a sink that tells this
+abbrev pub standing : Option (List ℕ) → ℕ → Option (List ℕ) → ℕ → Standing
+standing left reads_failed taken writes_failed =
+    record { left = left; reads_failed = reads_failed; taken = taken; writes_failed = writes_failed }
+
+-- what a run with these words does between two times
+pub record Conduct (words : List (List ℕ)) (old new : Standing) (status : ℕ) : Type 0 where
+  pub known : status ≤ 5
+  -- what was written at 0 and 1, and which of the two it is
+  pub answer : status ≤ 1 → IfSome (command_of words) (λ c. IfSome old.left (λ bytes. Answers c bytes old.taken new.taken status))
+  -- all of the input was read, but what is past the limit by more than a byte
+  pub read : status ≤ 1 → IfSome old.left (λ bytes. new.left ≡ Some (drop most_read bytes))
+  -- the usage line comes exactly for words that call for no command
+  pub usage_line : status ≡ 2 → Appends old.taken new.taken usage
+  pub other_words : status ≡ 2 → command_of words ≡ None
+  pub usable_words : command_of words ≡ None → (status ≡ 2) ⊎ (status ≡ 4)
+  -- a failed read
+  pub read_fault : status ≡ 3 → HasRisen old.reads_failed new.reads_failed
+  pub read_nothing : status ≡ 3 → new.taken ≡ old.taken
+  -- a failed write, and the front of the text that was written before it
+  pub write_fault : status ≡ 4 → HasRisen old.writes_failed new.writes_failed
+  pub write_part : status ≡ 4 → IfSome (command_of words) (λ c. IfSome old.left (λ bytes. AnswersInPart c bytes old.taken new.taken))
+  pub usage_part : status ≡ 4 → command_of words ≡ None → AppendsPart old.taken new.taken usage
+  -- want of memory
+  pub memory : status ≡ 5 → new.taken ≡ old.taken
