@@ -1,32 +1,33 @@
 -- What holds of a search wherever it has come to, and how it ends.
 use Rattle.std.proofs.Common.{◌≡◌, ◌≢◌, ℕ, ◌+◌, ◌*◌, ◌^◌, ◌<◌, ◌≤◌, Bool, true, false, cond, nat_lt, ◌&&◌, not, List, [], length, get_or, Option, Some, None, refl, sym, ap, ◌∙◌, subst, arith, ◌⊎◌, inl, inr}
-use Rattle.std.specs.List.{All}
+use Rattle.std.specs.List.{All, IsDistinct}
 use Rattle.std.proofs.lemmas.Bool.Decides.{nat_tests}
 use Rattle.std.proofs.Math.Nat.{mul-le-mul_right}
 use Rattle.ch_grid.specs.declared.param.Param.{Param}
 use Rattle.ch_grid.specs.Grid.{sizes}
-use Rattle.ch_grid.specs.Points.{count}
+use Rattle.ch_grid.specs.Points.{count, is_point}
 use Rattle.ch_grid.proofs.Sizes.{count_all}
 use Rattle.ch_rank.specs.declared.outcome.Outcome.{Outcome}
 use Rattle.ch_rank.specs.declared.outcome.Costed.{Costed}
 use Rattle.ch_rank.specs.declared.phase.Phase.{Phase}
 use Rattle.ch_rank.specs.declared.phase.Phase.TheVariants.{Start, Reflect, Try, Expand, Shrink, Probe, Converged}
-use Rattle.ch_rank.specs.Moves.{Point, first_simplex}
+use Rattle.ch_rank.specs.Moves.{Point, first_simplex, same_point}
 use Rattle.ch_rank.specs.Bound.{bound, greatest, halvings}
 use Rattle.ch_rank.specs.Leads.{Leads}
 use Rattle.ch_rank.specs.Leads.Leads.{stay, round}
 use Rattle.ch_rank.specs.Search.{Game, Known, costed, below, is_over, decided, decides, advance, opening, search_on, enlisted, numbers}
-use Rattle.ch_rank.specs.Entries.{Searched, played, known, most_steps}
+use Rattle.ch_rank.specs.Entries.{Searched, played, known_in, most_steps}
 use Rattle.ch_rank.specs.Course.{least, Falls}
-use Rattle.ch_rank.proofs.Lists.{In, all_at, all_of, all_more, all_both}
-use Rattle.ch_rank.proofs.Table.{InGrid}
+use Rattle.ch_rank.specs.Entries.{In}
+use Rattle.ch_rank.proofs.Lists.{all_at, all_of, all_more, all_both}
+use Rattle.ch_rank.proofs.Table.{InGrid, few_trials}
 use Rattle.ch_rank.proofs.Starting.{centre_point, sizes_some}
 use Rattle.ch_rank.proofs.Halving.{halvings_enough}
 use Rattle.ch_rank.proofs.Spread.{AreSizes, are_sizes}
 use Rattle.ch_rank.proofs.Replay.{leads_to_play, settles}
 use Rattle.ch_rank.proofs.Least.{below_trans, below_self}
 use Rattle.ch_rank.proofs.Outcomes.{costed_some}
-use Rattle.ch_rank.proofs.Apart.{none_apart, enlisted_apart, asked_all, new_asked, enlisted_long, numbers_long}
+use Rattle.ch_rank.proofs.Apart.{AreApart, none_apart, enlisted_apart, asked_all, new_asked, enlisted_long, numbers_long}
 use Rattle.ch_rank.proofs.Going.{first_in, Base, Opened, Ended, Reached}
 use Rattle.ch_rank.proofs.Reaching.{Next}
 use Rattle.ch_rank.proofs.Deciding.{decides_next, below_bound}
@@ -122,6 +123,15 @@ module _ (k : Known) (ns : List ℕ) (c : ℕ) (large : AreSizes (2 ^ c) ns) whe
   row_at j Probe g o = base_row j g o.base
   row_at j Converged g o = all_both (λ d. d.trial < length g.points) (λ d. k d.trial ≡ Some d.outcome) (λ d. (d.trial < length g.points) × (k d.trial ≡ Some d.outcome)) g.simplex (λ d x y. (x, y)) o.simplex_in o.simplex_held
 
+  trials_at : (j : ℕ) (ph : Phase) (g : Game) → Reached k ns c j ph g → AreApart ns g.points
+  trials_at j Start g o = o.trials
+  trials_at j Reflect g o = o.base.trials
+  trials_at j Try g o = o.base.trials
+  trials_at j Expand g o = o.base.trials
+  trials_at j Shrink g o = o.base.trials
+  trials_at j Probe g o = o.base.trials
+  trials_at j Converged g o = o.trials
+
   asked_at : (j : ℕ) (ph : Phase) (g : Game) → Reached k ns c j ph g → (t : ℕ) → In t g.asked → t < length g.points
   asked_at j Start g o t i = all_at (λ u. u < length g.points) t g.asked o.asked_in i
   asked_at j Reflect g o t i = all_at (λ u. u < length g.points) t g.asked o.asked_in i
@@ -214,8 +224,18 @@ steps_before ps k n =
 pub old_known : (ps : List Param) (k : Known) (t : ℕ) → t + length (search_on (sizes ps) k).asked < length (search_on (sizes ps) k).points → (o : Outcome) × (k t ≡ Some o)
 old_known ps k t h = let r = searched ps k in old_at k (sizes ps) (shrinks ps) (sizes_large ps) r.halvings (search_on (sizes ps) k).phase (search_on (sizes ps) k) r.reached t h
 
-pub played_row : (s : Searched) → All (λ d. (d.trial < length (played s).points) × (known s.entries d.trial ≡ Some d.outcome)) (played s).simplex
-played_row s = let r = searched s.grid (known s.entries) in row_at (known s.entries) (sizes s.grid) (shrinks s.grid) (sizes_large s.grid) r.halvings (played s).phase (played s) r.reached
+pub played_row : (s : Searched) → All (λ d. (d.trial < length (played s).points) × (known_in s d.trial ≡ Some d.outcome)) (played s).simplex
+played_row s = let r = searched s.grid (known_in s) in row_at (known_in s) (sizes s.grid) (shrinks s.grid) (sizes_large s.grid) r.halvings (played s).phase (played s) r.reached
+
+pub trials_in_grid : (ps : List Param) (k : Known) → All (λ p. is_point (sizes ps) p ≡ true) (search_on (sizes ps) k).points
+trials_in_grid ps k = let r = searched ps k in let a = trials_at k (sizes ps) (shrinks ps) (sizes_large ps) r.halvings (search_on (sizes ps) k).phase (search_on (sizes ps) k) r.reached in a.in_grid
+
+pub trials_apart : (ps : List Param) (k : Known) → IsDistinct same_point (search_on (sizes ps) k).points
+trials_apart ps k = let r = searched ps k in let a = trials_at k (sizes ps) (shrinks ps) (sizes_large ps) r.halvings (search_on (sizes ps) k).phase (search_on (sizes ps) k) r.reached in a.apart
+
+-- there are no more trials than points of the grid
+pub trials_few : (ps : List Param) (k : Known) → length (search_on (sizes ps) k).points ≤ count (sizes ps)
+trials_few ps k = let r = searched ps k in let a = trials_at k (sizes ps) (shrinks ps) (sizes_large ps) r.halvings (search_on (sizes ps) k).phase (search_on (sizes ps) k) r.reached in few_trials (sizes ps) (search_on (sizes ps) k).points a.in_grid a.apart
 
 which_end : (b : Bool) → (b ≡ true) ⊎ (b ≡ false)
 which_end true = inl refl
@@ -245,13 +265,13 @@ ended ps k e = let r = searched ps k in subst (λ (ph : Phase). Reached k (sizes
 pub falls : (s : Searched) → Falls s
 falls s = record {
   step = λ g h p e l n m.
-      let r = passes (known s.entries) (sizes s.grid) (shrinks s.grid) (sizes_large s.grid) (most_steps s) g (sizes_some s.grid) p in
-      let x = next_of (known s.entries) (sizes s.grid) (shrinks s.grid) (sizes_large s.grid) (most_steps s) r.halvings g h r.reached e in
+      let r = passes (known_in s) (sizes s.grid) (shrinks s.grid) (sizes_large s.grid) (most_steps s) g (sizes_some s.grid) p in
+      let x = next_of (known_in s) (sizes s.grid) (shrinks s.grid) (sizes_large s.grid) (most_steps s) r.halvings g h r.reached e in
       x.after.lowers n m l;
   shrinks = λ g h p l n e.
-      let r = passes (known s.entries) (sizes s.grid) (shrinks s.grid) (sizes_large s.grid) (most_steps s) g (sizes_some s.grid) p in
-      let x = along (known s.entries) (sizes s.grid) (shrinks s.grid) (sizes_large s.grid) (most_steps s) r.halvings g h r.reached l in
-      few g h r.halvings x.halvings e (few_halvings (known s.entries) (sizes s.grid) (shrinks s.grid) (sizes_large s.grid) x.halvings h.phase h x.reached n) x.either;
+      let r = passes (known_in s) (sizes s.grid) (shrinks s.grid) (sizes_large s.grid) (most_steps s) g (sizes_some s.grid) p in
+      let x = along (known_in s) (sizes s.grid) (shrinks s.grid) (sizes_large s.grid) (most_steps s) r.halvings g h r.reached l in
+      few g h r.halvings x.halvings e (few_halvings (known_in s) (sizes s.grid) (shrinks s.grid) (sizes_large s.grid) x.halvings h.phase h x.reached n) x.either;
 }
   where
     apart : (b : Bool) → b ≡ true → b ≡ false → ⊥

@@ -1,5 +1,5 @@
 -- One more entry.
-use Rattle.std.proofs.Common.{◌≡◌, ◌≢◌, ℕ, ◌+◌, ◌-◌, ◌*◌, ◌<◌, ◌≤◌, Bool, true, false, cond, eqb, nat_lt, List, [], ◌∷◌, ◌++◌, length, map, replicate, zero, suc, set, get_or, Option, Some, None, refl, sym, ap, ◌∙◌, subst, arith, ◌⊎◌, inl, inr, is_some, not, ◌&&◌, ◌||◌}
+use Rattle.std.proofs.Common.{append-nil, ◌≡◌, ◌≢◌, ℕ, ◌+◌, ◌-◌, ◌*◌, ◌<◌, ◌≤◌, Bool, true, false, cond, eqb, nat_lt, List, [], ◌∷◌, ◌++◌, length, map, replicate, zero, suc, set, get_or, Option, Some, None, refl, sym, ap, ◌∙◌, subst, arith, ◌⊎◌, inl, inr, is_some, not, ◌&&◌, ◌||◌}
 use Rattle.std.proofs.lemmas.Bool.Decides.{nat_tests}
 use Rattle.std.proofs.lemmas.List.{get_or-set_same, get_or-set_other, get_or_default}
 use Rattle.std.proofs.Math.ListN.{length-set}
@@ -9,19 +9,24 @@ use Rattle.ch_rank.specs.declared.outcome.Costed.{Costed}
 use Rattle.ch_rank.specs.Leads.{Leads}
 use Rattle.ch_rank.specs.Leads.Leads.{stay, round}
 use Rattle.ch_rank.specs.Board.{IsRound, known_by}
-use Rattle.ch_rank.specs.Entries.{known, IsSearch, AreLegal, Searched, played, is_pending}
+use Rattle.ch_rank.specs.declared.tally.Tally.{Tally}
+use Rattle.ch_rank.specs.Entries.{known, known_in, measured, is_refused, lesser, tally_from, outcome_with, completed, completed_now, completes, IsSearch, Searched, played, is_pending, may_enter}
 use Rattle.ch_grid.specs.declared.param.Param.{Param}
 use Rattle.ch_grid.specs.Grid.{sizes}
 use Rattle.ch_rank.specs.Bound.{bound}
-use Rattle.ch_rank.specs.Ranks.{better}
+use Rattle.ch_rank.specs.Ranks.{better_by, versions_by, versions, last_of}
 use Rattle.ch_rank.specs.Search.{Game, Known, advance, opening, play, go, decided, search_on}
-use Rattle.ch_rank.proofs.Ranking.{version_more}
+use Rattle.ch_rank.proofs.Ranking.{versions_count}
+use Rattle.ch_rank.proofs.Measuring.{which, differ, none_yet, measured_new, measured_other, tally_more, known_other, known_new, known_more, completed_more, completes_none, versions_more, kept_more, nothing_known}
 use Rattle.std.specs.List.{All, IsDistinct, AllByRecursion, list_any}
 use Rattle.std.proofs.lemmas.List.Elements.{All-head, All-tail, All-append, All-cons, All-nil}
 use Rattle.std.proofs.lemmas.Map.Steps.{length-le_from_distinct_below}
 use Rattle.ch_rank.proofs.Lists.{all_more}
 use Rattle.ch_rank.proofs.Rounds.{round_on, sizes_on, points_on}
-use Rattle.ch_rank.proofs.Replay.{Knows, leads_more, leads_on, leads_to_play, settles, ends_alike}
+use Rattle.ch_rank.proofs.Replay.{leads_more, leads_on, leads_to_play, settles, ends_alike}
+use Rattle.ch_rank.specs.Growth.{Knows}
+use Rattle.ch_rank.specs.Entries.{at_entries}
+use Rattle.ch_rank.proofs.Legal.{legal_one_more}
 
 rounds_along : (most : ℕ) (k : Known) (g h : Game) → Leads most k g h → IsRound g → IsRound h
 rounds_along most k _ _ (stay g) i = i
@@ -58,175 +63,171 @@ waits : (b : Bool) (g : Game) → cond b (decided g None) None ≡ None
 waits true g = refl
 waits false g = refl
 
-pub opening_waits : (sizes : List ℕ) → opening sizes ≡ search_on sizes (known [])
+opening_waits_none : (sizes : List ℕ) → opening sizes ≡ search_on sizes (λ t. None)
 unfolding search_on
-opening_waits sizes = sym (play_waits (bound sizes) (3 * bound sizes + 4) (known []) (opening sizes) (waits (nat_lt 0 (bound sizes) && true) (opening sizes)))
+opening_waits_none sizes = sym (play_waits (bound sizes) (3 * bound sizes + 4) (λ t. None) (opening sizes) (waits (nat_lt 0 (bound sizes) && true) (opening sizes)))
+
+pub opening_waits : (r : ℕ) (sizes : List ℕ) → 1 ≤ r → opening sizes ≡ search_on sizes (known r [])
+opening_waits r sizes h = opening_waits_none sizes ∙ ap (λ (k : Known). search_on sizes k) (λ i t. sym (nothing_known r t h) i)
 
 pub unknown : (n t : ℕ) → known_by (replicate n None) t ≡ None
 unknown zero t = refl
 unknown (suc n) zero = refl
 unknown (suc n) (suc t) = unknown n t
 
-known_case : (b : Bool) (x y : Option Outcome) (o p : Outcome) → cond b (Some p) x ≡ Some o → (x ≡ Some o → y ≡ Some o) → cond b (Some p) y ≡ Some o
-known_case true x y o p e f = e
-known_case false x y o p e f = f e
+outcome_now : (r : ℕ) (os : List (Option Outcome)) (es : List Costed) (c : Costed) (done : Option Outcome) (t : ℕ) → ((u : ℕ) → known_by os u ≡ known r es u) → c.trial < length os → known r es c.trial ≡ None → done ≡ outcome_with (tally_from r (measured es c.trial)) c.outcome → (t ≡ c.trial) ⊎ (t ≢ c.trial) → known_by (set os c.trial done) t ≡ known r (es ++ c ∷ []) t
+outcome_now r os es c done t are lt none is (inl e) =
+    let s : get_or (set os c.trial done) c.trial None ≡ done = get_or-set_same os c.trial done None lt in
+    let n : known r (es ++ c ∷ []) c.trial ≡ done = known_new r es c none ∙ sym is in
+    subst (λ (u : ℕ). known_by (set os c.trial done) u ≡ known r (es ++ c ∷ []) u) (sym e) (s ∙ sym n)
+outcome_now r os es c done t are lt none is (inr e) = get_or-set_other os c.trial t done None e ∙ (are t ∙ sym (known_other r es c t (differ c.trial t e)))
 
-known_more : (es : List Costed) (c : Costed) (t : ℕ) (o : Outcome) → known es t ≡ Some o → known (es ++ c ∷ []) t ≡ Some o
-known_more [] c t o e = absurd (cc)
-known_more (d ∷ es) c t o e = known_case (eqb d.trial t) (known es t) (known (es ++ c ∷ []) t) o d.outcome e (known_more es c t o)
-
-none_case : (b : Bool) (x y z : Option Outcome) (p : Outcome) → cond b (Some p) x ≡ None → (x ≡ None → y ≡ z) → cond b (Some p) y ≡ z
-none_case true x y z p e f = absurd (cc)
-none_case false x y z p e f = f e
-
-known_new : (es : List Costed) (c : Costed) (t : ℕ) → known es t ≡ None → known (es ++ c ∷ []) t ≡ cond (eqb c.trial t) (Some c.outcome) None
-known_new [] c t e = refl
-known_new (d ∷ es) c t e = none_case (eqb d.trial t) (known es t) (known (es ++ c ∷ []) t) (cond (eqb c.trial t) (Some c.outcome) None) d.outcome e (known_new es c t)
-
-known_other : (es : List Costed) (c : Costed) (t : ℕ) → eqb c.trial t ≡ false → known (es ++ c ∷ []) t ≡ known es t
-known_other [] c t e = rw e refl
-known_other (d ∷ es) c t e = ap (λ x. cond (eqb d.trial t) (Some d.outcome) x) (known_other es c t e)
-
-same_true : (x : ℕ) → eqb x x ≡ true
-same_true x = grind (arith, nat_tests)
-
-differ : (x y : ℕ) → (y ≢ x) → eqb x y ≡ false
-differ x y h = grind (arith, nat_tests)
-
-which : (x y : ℕ) → (x ≡ y) ⊎ (x ≢ y)
-which x y = grind (arith, nat_tests)
-
-outcome_now : (os : List (Option Outcome)) (es : List Costed) (c : Costed) (t : ℕ) → ((u : ℕ) → known_by os u ≡ known es u) → c.trial < length os → known es c.trial ≡ None → (t ≡ c.trial) ⊎ (t ≢ c.trial) → known_by (set os c.trial (Some c.outcome)) t ≡ known (es ++ c ∷ []) t
-outcome_now os es c t are lt none (inl e) =
-    let s : get_or (set os c.trial (Some c.outcome)) c.trial None ≡ Some c.outcome = get_or-set_same os c.trial (Some c.outcome) None lt in
-    let n : known (es ++ c ∷ []) c.trial ≡ Some c.outcome = known_new es c c.trial none ∙ ap (λ b. cond b (Some c.outcome) None) (same_true c.trial) in
-    subst (λ (u : ℕ). known_by (set os c.trial (Some c.outcome)) u ≡ known (es ++ c ∷ []) u) (sym e) (s ∙ sym n)
-outcome_now os es c t are lt none (inr e) = get_or-set_other os c.trial t (Some c.outcome) None e ∙ (are t ∙ sym (known_other es c t (differ c.trial t e)))
+tally_now : (r : ℕ) (ts : List Tally) (es : List Costed) (c : Costed) (new : Tally) (t : ℕ) → ((u : ℕ) → get_or ts u (tally_from r []) ≡ tally_from r (measured es u)) → c.trial < length ts → new ≡ record { left = (tally_from r (measured es c.trial)).left - 1; least = lesser (tally_from r (measured es c.trial)).least c.outcome } → (t ≡ c.trial) ⊎ (t ≢ c.trial) → get_or (set ts c.trial new) t (tally_from r []) ≡ tally_from r (measured (es ++ c ∷ []) t)
+tally_now r ts es c new t are lt is (inl e) =
+    let s : get_or (set ts c.trial new) c.trial (tally_from r []) ≡ new = get_or-set_same ts c.trial new (tally_from r []) lt in
+    let n : tally_from r (measured (es ++ c ∷ []) c.trial) ≡ new = ap (λ (v : List Outcome). tally_from r v) (measured_new es c) ∙ (tally_more r (measured es c.trial) c.outcome ∙ sym is) in
+    subst (λ (u : ℕ). get_or (set ts c.trial new) u (tally_from r []) ≡ tally_from r (measured (es ++ c ∷ []) u)) (sym e) (s ∙ sym n)
+tally_now r ts es c new t are lt is (inr e) = get_or-set_other ts c.trial t new (tally_from r []) e ∙ (are t ∙ ap (λ (v : List Outcome). tally_from r v) (sym (measured_other es c t (differ c.trial t e))))
 
 points_along : (most : ℕ) (k : Known) (g h : Game) → Leads most k g h → length g.points ≤ length h.points
 points_along most k _ _ (stay g) = omega arith
 points_along most k _ _ (round g h j e l) = let p = points_on most k g h e in let r = points_along most k h j l in omega arith
 
--- ---- legal entries
+-- what one more entry wrote
+pub record Wrote (ps : List Param) (r : ℕ) (g h : Game) (os os' : List (Option Outcome)) (ts ts' : List Tally) (es : List Costed) (b b' : Option Costed) (vs vs' most : ℕ) (c : Costed) : Type 0 where
+  pub allowed : may_enter (at_entries ps r es) c.trial c.outcome ≡ true
+  pub done : Option Outcome
+  pub done_is : done ≡ outcome_with (tally_from r (measured es c.trial)) c.outcome
+  pub outcomes : os' ≡ set os c.trial done
+  pub tally : Tally
+  pub tally_is : tally ≡ record { left = (tally_from r (measured es c.trial)).left - 1; least = lesser (tally_from r (measured es c.trial)).least c.outcome }
+  pub tallies : ts' ≡ set ts c.trial tally
+  pub best : b' ≡ better_by b (completed_now c.trial None done)
+  pub versions : vs' ≡ vs + versions_by b done
+  pub fits : length h.points ≤ count h.sizes
+  pub led : Leads most (known_by os') g h
+  pub over : advance most (known_by os') h ≡ None
 
-none_pair : (b : Bool) (x : Option Outcome) (o : Outcome) → cond b (Some o) x ≡ None → (b ≡ false) × (x ≡ None)
-none_pair true x o e = absurd (cc)
-none_pair false x o e = (refl, e)
-
-trial_pushed : (t u : ℕ) (es : List Costed) (c : Costed) → AllByRecursion (λ v. eqb t v ≡ false) (map (λ e. e.trial) es) → eqb t c.trial ≡ false → AllByRecursion (λ v. eqb t v ≡ false) (map (λ e. e.trial) (es ++ c ∷ []))
-trial_pushed t u [] c a e = (e, tt)
-trial_pushed t u (d ∷ es) c a e = (a.0, trial_pushed t u es c a.1 e)
-
-trials_apart : (es : List Costed) (c : Costed) → IsDistinct eqb (map (λ e. e.trial) es) → known es c.trial ≡ None → IsDistinct eqb (map (λ e. e.trial) (es ++ c ∷ []))
-unfolding IsDistinct
-trials_apart [] c d e = (tt, tt)
-trials_apart (f ∷ es) c d e = let n = none_pair (eqb f.trial c.trial) (known es c.trial) f.outcome e in (trial_pushed f.trial c.trial es c d.0 n.0, trials_apart es c d.1 n.1)
-
-legal_more : (es : List Costed) (c : Costed) (m n : ℕ) → AreLegal m es → c.trial < m → m ≤ n → known es c.trial ≡ None → AreLegal n (es ++ c ∷ [])
-legal_more es c m n l h le none = record {
-  here = All-append (λ e. (e.trial < n) × (known (es ++ c ∷ []) e.trial ≡ Some e.outcome)) es (c ∷ [])
-      (all_more (λ e. (e.trial < m) × (known es e.trial ≡ Some e.outcome)) (λ e. (e.trial < n) × (known (es ++ c ∷ []) e.trial ≡ Some e.outcome)) es (λ e x. (omega (arith, x.0), known_more es c e.trial e.outcome x.1)) l.here)
-      (All-cons (λ e. (e.trial < n) × (known (es ++ c ∷ []) e.trial ≡ Some e.outcome)) c [] (omega arith, known_new es c c.trial none ∙ ap (λ b. cond b (Some c.outcome) None) (same_true c.trial)) (All-nil (λ e. (e.trial < n) × (known (es ++ c ∷ []) e.trial ≡ Some e.outcome))));
-  apart = trials_apart es c l.apart none;
-}
-
-none_distinct : IsDistinct eqb []
-unfolding IsDistinct
-none_distinct = tt
-
-pub none_legal : (n : ℕ) → AreLegal n []
-none_legal n = record { here = All-nil (λ e. (e.trial < n) × (known [] e.trial ≡ Some e.outcome)); apart = none_distinct }
-
-among : (b l : Bool) (q t n : ℕ) → (b || l) ≡ true → (b ≡ true → q ≡ t) → t < n → (l ≡ true → q < n) → q < n
-among true l q t n h f lt g = let e = f refl in omega arith
-among false l q t n h f lt g = g h
-
-equal_of : (x y : ℕ) → eqb x y ≡ true → x ≡ y
-equal_of x y h = grind (arith, nat_tests)
-
-trials_below : (es : List Costed) (n : ℕ) → All (λ e. e.trial < n) es → (q : ℕ) → list_any (eqb q) (map (λ e. e.trial) es) ≡ true → q < n
-trials_below [] n a q h = absurd (cc)
-trials_below (e ∷ es) n a q h = among (eqb q e.trial) (list_any (eqb q) (map (λ e. e.trial) es)) q e.trial n h (equal_of q e.trial) (All-head (λ x. x.trial < n) e es a) (trials_below es n (All-tail (λ x. x.trial < n) e es a) q)
-
-length_trials : (es : List Costed) → length (map (λ e. e.trial) es) ≡ length es
-length_trials [] = refl
-length_trials (e ∷ es) = ap (λ n. suc n) (length_trials es)
-
--- there are no more entries than trials
-pub few_entries : (es : List Costed) (n : ℕ) → AreLegal n es → length es ≤ n
-few_entries es n l =
-    let d = length-le_from_distinct_below (map (λ e. e.trial) es) n l.apart (trials_below es n (all_more (λ e. (e.trial < n) × (known es e.trial ≡ Some e.outcome)) (λ e. e.trial < n) es (λ e x. x.0) l.here)) in
-    omega (arith, d, length_trials es)
-
-pub entered : (ps : List Param) (g h : Game) (os : List (Option Outcome)) (es : List Costed) (b b' : Option Costed) (most : ℕ) (c : Costed) → IsSearch ps g os es b most → c.trial < length os → known_by os c.trial ≡ None → length h.points ≤ count h.sizes →
-    c.trial < length g.points → b' ≡ better b c → Leads most (known_by (set os c.trial (Some c.outcome))) g h → advance most (known_by (set os c.trial (Some c.outcome))) h ≡ None → IsSearch ps h (set os c.trial (Some c.outcome)) (es ++ c ∷ []) b' most
-entered ps g h os es b b' most c s lt none fits here best l over =
+pub entered : (ps : List Param) (rep : ℕ) (g h : Game) (os os' : List (Option Outcome)) (ts ts' : List Tally) (es : List Costed) (b b' : Option Costed) (vs vs' most : ℕ) (c : Costed) → IsSearch ps rep g os ts es b vs most → c.trial < length g.points → known rep es c.trial ≡ None →
+    Wrote ps rep g h os os' ts ts' es b b' vs vs' most c → IsSearch ps rep h os' ts' (es ++ c ∷ []) b' vs' most
+entered ps rep g h os os' ts ts' es b b' vs vs' most c s here none w =
     let ns : List ℕ = sizes ps in
-    let k : Known = known es in
-    let k' : Known = known (es ++ c ∷ []) in
-    let are : (t : ℕ) → known_by (set os c.trial (Some c.outcome)) t ≡ k' t = λ t. outcome_now os es c t s.outcomes_are lt (sym (s.outcomes_are c.trial) ∙ none) (which t c.trial) in
-    let fun : known_by (set os c.trial (Some c.outcome)) ≡ k' = λ i t. are t i in
-    let l' : Leads most k' g h = subst (λ (f : Known). Leads most f g h) fun l in
-    let over' : advance most k' h ≡ None = subst (λ (f : Known). advance most f h ≡ None) fun over in
+    let k : Known = known rep es in
+    let k' : Known = known rep (es ++ c ∷ []) in
+    let lt : c.trial < length os = omega (arith, s.long, s.within) in
+    let ltt : c.trial < length ts = omega (arith, s.tallies_long, s.within) in
+    let are : (t : ℕ) → known_by os' t ≡ k' t = λ t. subst (λ (v : List (Option Outcome)). known_by v t ≡ k' t) (sym w.outcomes) (outcome_now rep os es c w.done t s.outcomes_are lt none w.done_is (which t c.trial)) in
+    let fun : known_by os' ≡ k' = λ i t. are t i in
+    let l' : Leads most k' g h = subst (λ (f : Known). Leads most f g h) fun w.led in
+    let over' : advance most k' h ≡ None = subst (λ (f : Known). advance most f h ≡ None) fun w.over in
     let same : h.sizes ≡ g.sizes = sizes_along most k' g h l' in
-    let anew : h ≡ search_on ns k' = goes_on_anew ns k k' g h (λ t o e. known_more es c t o e) s.game (subst (λ (n : ℕ). Leads n k' g h) s.most_is l') (subst (λ (n : ℕ). advance n k' h ≡ None) s.most_is over') in
+    let anew : h ≡ search_on ns k' = goes_on_anew ns k k' g h (λ t o e. known_more rep es c t o none e) s.game (subst (λ (n : ℕ). Leads n k' g h) s.most_is l') (subst (λ (n : ℕ). advance n k' h ≡ None) s.most_is over') in
+    let all : completed_now c.trial None w.done ≡ completes rep es c = ap (λ (o : Option Outcome). completed_now c.trial None o) (w.done_is ∙ sym (known_new rep es c none)) ∙ sym (completes_none rep es c none) in
     record {
+      repeat = s.repeat;
       sizes_are = same ∙ s.sizes_are;
       game = anew;
       outcomes_are = are;
-      long = length-set os c.trial (Some c.outcome) ∙ (s.long ∙ ap count (sym same));
-      within = fits;
-      legal = legal_more es c (length g.points) (length h.points) s.legal here (points_along most k' g h l') (sym (s.outcomes_are c.trial) ∙ none);
-      best_is = best ∙ (ap (λ (o : Option Costed). better o c) s.best_is ∙ version_more es c);
+      tallies_are = λ t. subst (λ (v : List Tally). get_or v t (tally_from rep []) ≡ tally_from rep (measured (es ++ c ∷ []) t)) (sym w.tallies) (tally_now rep ts es c w.tally t s.tallies_are ltt w.tally_is (which t c.trial));
+      long = ap (λ (v : List (Option Outcome)). length v) w.outcomes ∙ (length-set os c.trial w.done ∙ (s.long ∙ ap count (sym same)));
+      tallies_long = ap (λ (v : List Tally). length v) w.tallies ∙ (length-set ts c.trial w.tally ∙ (s.tallies_long ∙ ap count (sym same)));
+      within = w.fits;
+      legal = legal_one_more ps rep [] es c s.legal w.allowed;
+      kept = kept_more rep es c (length g.points) (length h.points) s.kept here (points_along most k' g h l') none;
+      best_is = w.best ∙ (ap (λ (o : Option Costed). better_by o (completed_now c.trial None w.done)) s.best_is ∙ (ap (λ (v : List Costed). better_by (last_of (versions (completed rep es))) v) all ∙ (versions_more (completed rep es) (completes rep es c) ∙ ap (λ (v : List Costed). last_of (versions v)) (sym (completed_more rep es c)))));
+      versions_are = w.versions ∙ (ap (λ (n : ℕ). n + versions_by b w.done) s.versions_are ∙ (ap (λ (o : Option Costed). length (versions (completed rep es)) + versions_by o w.done) s.best_is ∙ (count_done (completed rep es) c.trial w.done ∙ (ap (λ (v : List Costed). length (versions (completed rep es ++ v))) all ∙ ap (λ (v : List Costed). length (versions v)) (sym (completed_more rep es c))))));
+      points_few = s.points_few;
       most_is = s.most_is;
       small = s.small;
     }
+  where
+    plus_zero : (n : ℕ) → n + 0 ≡ n
+    plus_zero n = omega arith
+
+    count_done : (xs : List Costed) (t : ℕ) (o : Option Outcome) → length (versions xs) + versions_by (last_of (versions xs)) o ≡ length (versions (xs ++ completed_now t None o))
+    count_done xs t None = plus_zero (length (versions xs)) ∙ ap (λ (v : List Costed). length (versions v)) (sym (append-nil xs))
+    count_done xs t (Some o) = sym (versions_count xs (record { trial = t; outcome = o }))
 
 none_of : (o : Option Outcome) → is_some o ≡ false → o ≡ None
 none_of None e = refl
 none_of (Some x) e = absurd (cc)
 
--- what a call of `enter` knows, with the list that its settling was given
-pub record Now (ps : List Param) (g h : Game) (os' : List (Option Outcome)) (es es' : List Costed) (b' : Option Costed) (most t : ℕ) : Type 0 where
-  pub search : IsSearch ps h os' es' b' most
-  pub here : t < length g.points
-  pub none : known es t ≡ None
+-- what a trial's cells say
+pub record Cells (r : ℕ) (es : List Costed) (t : ℕ) (tally : Tally) : Type 0 where
+  pub none : known r es t ≡ None
+  pub tally_is : tally ≡ tally_from r (measured es t)
 
-pub entered_now : (ps : List Param) (g h : Game) (os os' : List (Option Outcome)) (es es' : List Costed) (b b' : Option Costed) (most t : ℕ) (o : Outcome) (read : Option Outcome) → IsSearch ps g os es b most → t < length g.points → read ≡ get_or os t read → is_some read ≡ false →
-    es' ≡ es ++ record { trial = t; outcome = o } ∷ [] → b' ≡ better b (record { trial = t; outcome = o }) → os' ≡ set os t (Some o) → length h.points ≤ count h.sizes → Leads most (known_by os') g h → advance most (known_by os') h ≡ None → Now ps g h (set os t (Some o)) es es' b' most t
-entered_now ps g h os os' es es' b b' most t o read s here r n more best new fits l over =
+pub cells_of : (ps : List Param) (rep : ℕ) (g : Game) (os : List (Option Outcome)) (ts : List Tally) (es : List Costed) (b : Option Costed) (vs most t : ℕ) (read : Option Outcome) (tally : Tally) → IsSearch ps rep g os ts es b vs most → t < length g.points → read ≡ get_or os t read → is_some read ≡ false → tally ≡ get_or ts t tally → Cells rep es t tally
+cells_of ps rep g os ts es b vs most t read tally s here r n e =
     let lt : t < length os = omega (arith, s.long, s.within) in
+    let ltt : t < length ts = omega (arith, s.tallies_long, s.within) in
     let none : known_by os t ≡ None = get_or_default os t None read lt ∙ (sym r ∙ none_of read n) in
-    let l' : Leads most (known_by (set os t (Some o))) g h = subst (λ (v : List (Option Outcome)). Leads most (known_by v) g h) new l in
-    let over' : advance most (known_by (set os t (Some o))) h ≡ None = subst (λ (v : List (Option Outcome)). advance most (known_by v) h ≡ None) new over in
     record {
-      search = subst (λ (v : List Costed). IsSearch ps h (set os t (Some o)) v b' most) (sym more) (entered ps g h os es b b' most (record { trial = t; outcome = o }) s lt none fits here best l' over');
-      here = here;
       none = sym (s.outcomes_are t) ∙ none;
+      tally_is = e ∙ (get_or_default ts t tally (tally_from rep []) ltt ∙ s.tallies_are t);
     }
 
+pub entered_now : (ps : List Param) (rep : ℕ) (g h : Game) (os os' : List (Option Outcome)) (ts : List Tally) (es es' : List Costed) (b b' : Option Costed) (vs vs' most t : ℕ) (o : Outcome) (tally new : Tally) (done : Option Outcome) → IsSearch ps rep g os ts es b vs most → t < length g.points → Cells rep es t tally → may_enter (at_entries ps rep es) t o ≡ true → done ≡ outcome_with tally o → new ≡ record { left = tally.left - 1; least = lesser tally.least o } →
+    es' ≡ es ++ record { trial = t; outcome = o } ∷ [] → vs' ≡ vs + versions_by b done → b' ≡ better_by b (completed_now t None done) → os' ≡ set os t done → length h.points ≤ count h.sizes → Leads most (known_by os') g h → advance most (known_by os') h ≡ None → IsSearch ps rep h (set os t done) (set ts t new) es' b' vs' most
+entered_now ps rep g h os os' ts es es' b b' vs vs' most t o tally new done s here c ok d n more made best wrote fits l over =
+    let e : Costed = record { trial = t; outcome = o } in
+    let d' : done ≡ outcome_with (tally_from rep (measured es t)) o = d ∙ ap (λ (y : Tally). outcome_with y o) c.tally_is in
+    let n' : new ≡ record { left = (tally_from rep (measured es t)).left - 1; least = lesser (tally_from rep (measured es t)).least o } = n ∙ ap (λ (y : Tally). record { left = y.left - 1; least = lesser y.least o }) c.tally_is in
+    let l' : Leads most (known_by (set os t done)) g h = subst (λ (v : List (Option Outcome)). Leads most (known_by v) g h) wrote l in
+    let over' : advance most (known_by (set os t done)) h ≡ None = subst (λ (v : List (Option Outcome)). advance most (known_by v) h ≡ None) wrote over in
+    subst (λ (v : List Costed). IsSearch ps rep h (set os t done) (set ts t new) v b' vs' most) (sym more)
+    (entered ps rep g h os (set os t done) ts (set ts t new) es b b' vs vs' most e s here c.none
+    (record { allowed = ok; done = done; done_is = d'; outcomes = refl; tally = new; tally_is = n'; tallies = refl; best = best; versions = made; fits = fits; led = l'; over = over' }))
+
 -- the game that the code keeps is the search played anew
-pub game_now : (ps : List Param) (g : Game) (os : List (Option Outcome)) (es : List Costed) (b : Option Costed) (most spare : ℕ) (now : Searched) → IsSearch ps g os es b most → record { grid = ps; entries = es; spare = spare } ≡ now → g ≡ played now
-game_now ps g os es b most spare now s v = s.game ∙ ap played v
+pub game_now : (ps : List Param) (rep : ℕ) (g : Game) (os : List (Option Outcome)) (ts : List Tally) (es : List Costed) (b : Option Costed) (vs most spare : ℕ) (now : Searched) → IsSearch ps rep g os ts es b vs most → record { grid = ps; repeat = rep; entries = es; spare = spare } ≡ now → g ≡ played now
+game_now ps rep g os ts es b vs most spare now s v = s.game ∙ ap played v
 
-pub pending_now : (ps : List Param) (g : Game) (os : List (Option Outcome)) (es : List Costed) (b : Option Costed) (most spare t : ℕ) (now : Searched) → IsSearch ps g os es b most → record { grid = ps; entries = es; spare = spare } ≡ now → t < length g.points → known es t ≡ None → is_pending now t ≡ true
-pending_now ps g os es b most spare t now s v lt n =
-    let p : g ≡ played now = game_now ps g os es b most spare now s v in
-    let a : nat_lt t (length (played now).points) ≡ true = subst (λ (x : Game). nat_lt t (length x.points) ≡ true) p (test t (length g.points) lt) in
-    let b : known now.entries t ≡ None = subst (λ (x : Searched). known x.entries t ≡ None) v n in
-    both_tests (nat_lt t (length (played now).points)) (known now.entries t) a b
+test_less : (x y : ℕ) → x < y → nat_lt x y ≡ true
+test_less x y h = grind (arith, nat_tests)
+
+both_tests : (x z : Bool) (y : Option Outcome) → x ≡ true → y ≡ None → z ≡ true → (x && not (is_some y) && z) ≡ true
+both_tests true true None p q r = refl
+both_tests true false None p q r = absurd (cc)
+both_tests true z (Some v) p q r = absurd (cc)
+both_tests false z y p q r = absurd (cc)
+
+none_measured : (r n : ℕ) → r ≤ r - n → 1 ≤ r → nat_lt 0 n ≡ false
+none_measured r n h k = grind (arith, nat_tests)
+
+some_measured : (r n : ℕ) → r - n < r → nat_lt 0 n ≡ true
+some_measured r n h = grind (arith, nat_tests)
+
+-- it may be entered
+pub allowed_now : (ps : List Param) (rep : ℕ) (g : Game) (os : List (Option Outcome)) (ts : List Tally) (es : List Costed) (b : Option Costed) (vs most spare t : ℕ) (now : Searched) (tally : Tally) (o : Outcome) → IsSearch ps rep g os ts es b vs most → record { grid = ps; repeat = rep; entries = es; spare = spare } ≡ now → t < length g.points → Cells rep es t tally → (is_refused o ≡ true → rep ≤ tally.left) → may_enter now t o ≡ true
+allowed_now ps rep g os ts es b vs most spare t now tally o s v lt c f =
+    let p : g ≡ played now = game_now ps rep g os ts es b vs most spare now s v in
+    let a : nat_lt t (length (played now).points) ≡ true = subst (λ (x : Game). nat_lt t (length x.points) ≡ true) p (test_less t (length g.points) lt) in
+    let b : known_in now t ≡ None = subst (λ (x : Searched). known_in x t ≡ None) v c.none in
+    let d : not (is_refused o && nat_lt 0 (length (measured now.entries t))) ≡ true = subst (λ (x : Searched). not (is_refused o && nat_lt 0 (length (measured x.entries t))) ≡ true) v (at (is_refused o) (λ e. none_measured rep (length (measured es t)) (left (f e)) s.repeat.0)) in
+    both_tests (nat_lt t (length (played now).points)) (not (is_refused o && nat_lt 0 (length (measured now.entries t)))) (known_in now t) a b d
   where
-    test : (x y : ℕ) → x < y → nat_lt x y ≡ true
-    test x y h = grind (arith, nat_tests)
+    left : rep ≤ tally.left → rep ≤ rep - length (measured es t)
+    left h = let e = ap (λ (y : Tally). y.left) c.tally_is in omega (arith, e)
 
-    both_tests : (x : Bool) (y : Option Outcome) → x ≡ true → y ≡ None → (x && not (is_some y)) ≡ true
-    both_tests true None p q = refl
-    both_tests true (Some v) p q = absurd (cc)
-    both_tests false y p q = absurd (cc)
+    at : (x : Bool) → (x ≡ true → nat_lt 0 (length (measured es t)) ≡ false) → not (x && nat_lt 0 (length (measured es t))) ≡ true
+    at true h = ap (λ (y : Bool). not y) (h refl)
+    at false h = refl
+
+-- a trial that was measured is not refused any more
+pub refused_now : (ps : List Param) (rep : ℕ) (es : List Costed) (spare t : ℕ) (now : Searched) (tally : Tally) (o : Outcome) → record { grid = ps; repeat = rep; entries = es; spare = spare } ≡ now → Cells rep es t tally → is_refused o ≡ true → tally.left < rep → may_enter now t o ≡ false
+refused_now ps rep es spare t now tally o v c e h =
+    let l = ap (λ (y : Tally). y.left) c.tally_is in
+    let m : nat_lt 0 (length (measured now.entries t)) ≡ true = subst (λ (x : Searched). nat_lt 0 (length (measured x.entries t)) ≡ true) v (some_measured rep (length (measured es t)) (omega (arith, l))) in
+    at (is_pending now t) (is_refused o) (nat_lt 0 (length (measured now.entries t))) e m
+  where
+    at : (x y z : Bool) → y ≡ true → z ≡ true → (x && not (y && z)) ≡ false
+    at true y z p q = ap (λ (w : Bool). not (w && z)) p ∙ ap (λ (w : Bool). not w) q
+    at false y z p q = refl
 
 -- the value afterwards
-pub searched_now : (now : Searched) (ps : List Param) (es es' : List Costed) (spare spare' : ℕ) (c : Costed) → record { grid = ps; entries = es; spare = spare } ≡ now → es' ≡ es ++ c ∷ [] → spare' ≡ spare - 1 →
-    record { grid = ps; entries = es'; spare = spare' } ≡ record now { entries = now.entries ++ c ∷ []; spare = now.spare - 1 }
-searched_now now ps es es' spare spare' c v e s =
-    subst (λ (n : Searched). record { grid = ps; entries = es'; spare = spare' } ≡ record n { entries = n.entries ++ c ∷ []; spare = n.spare - 1 }) v
-    (λ i. record { grid = ps; entries = e i; spare = s i })
+pub searched_now : (now : Searched) (ps : List Param) (rep : ℕ) (es es' : List Costed) (spare spare' : ℕ) (c : Costed) → record { grid = ps; repeat = rep; entries = es; spare = spare } ≡ now → es' ≡ es ++ c ∷ [] → spare' ≡ spare - 1 →
+    record { grid = ps; repeat = rep; entries = es'; spare = spare' } ≡ record now { entries = now.entries ++ c ∷ []; spare = now.spare - 1 }
+searched_now now ps rep es es' spare spare' c v e s =
+    subst (λ (n : Searched). record { grid = ps; repeat = rep; entries = es'; spare = spare' } ≡ record n { entries = n.entries ++ c ∷ []; spare = n.spare - 1 }) v
+    (λ i. record { grid = ps; repeat = rep; entries = e i; spare = s i })

@@ -12,11 +12,12 @@ use Rattle.ch_rank.specs.declared.phase.Phase.TheVariants.{Start, Reflect, Try, 
 use Rattle.ch_rank.specs.Moves.{Point, expansion, centre, around, in_turn, first_simplex, beside, near, width}
 use Rattle.ch_rank.specs.Trials.{mark}
 use Rattle.ch_rank.specs.Search.{Game, Known, costed, below, best, others, all_but, place_of_best, lowers, is_flat, enlisted, numbers, move, moves, only}
-use Rattle.ch_rank.proofs.Lists.{In, all_map, all_more, all_both, list_all_of}
+use Rattle.ch_rank.specs.Entries.{In}
+use Rattle.ch_rank.proofs.Lists.{all_map, all_more, all_both, list_all_of}
 use Rattle.ch_rank.proofs.Table.{InGrid}
 use Rattle.ch_rank.proofs.Moved.{coordinate}
 use Rattle.ch_rank.proofs.Beside.{set_point}
-use Rattle.ch_rank.proofs.Asking.{Keeps}
+use Rattle.ch_rank.specs.Growth.{Keeps}
 use Rattle.ch_rank.proofs.Held.{Held}
 use Rattle.ch_rank.proofs.Spread.{Within, AreSizes, within_one, within_grid}
 use Rattle.ch_rank.proofs.Least.{Steps}

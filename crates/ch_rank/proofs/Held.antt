@@ -11,7 +11,8 @@ use Rattle.ch_rank.specs.Moves.{Point, same_point, expansion, halfway}
 use Rattle.ch_rank.specs.Trials.{mark, mark_from, with_point}
 use Rattle.ch_rank.specs.Search.{Game, Known, and_also, costed, best, best_of, below, lowers, enlisted, numbers, asks, begins, begins_on, is_flat, stepped, decides, moves, only, place_of_best}
 use Rattle.ch_rank.proofs.Marks.{same_is, listed_mark, mark_new}
-use Rattle.ch_rank.proofs.Asking.{Keeps, keeps_self, keeps_one, keeps_on}
+use Rattle.ch_rank.proofs.Asking.{keeps_self, keeps_one, keeps_on}
+use Rattle.ch_rank.specs.Growth.{Keeps}
 
 -- ---- the points of the numbers
 

@@ -8,6 +8,7 @@ pub mod Best
 pub mod Ranges
 pub mod FlatRow
 pub mod Rounds
+pub mod Legal
 pub mod Entering
 pub mod Least
 pub mod Spread
@@ -17,6 +18,9 @@ pub mod Halving
 pub mod Starting
 pub mod Ranking
 pub mod Lists
+pub mod Measuring
+pub mod Repeated
+pub mod Growing
 pub mod Apart
 pub mod Outcomes
 pub mod Going

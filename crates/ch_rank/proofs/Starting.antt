@@ -20,7 +20,11 @@ use Rattle.ch_rank.specs.Search.{Game, opening}
 use Rattle.ch_rank.specs.Entries.{IsSearch}
 use Rattle.ch_rank.specs.declared.outcome.Outcome.{Outcome}
 use Rattle.ch_rank.specs.declared.outcome.Costed.{Costed}
-use Rattle.ch_rank.proofs.Entering.{opening_waits, unknown, none_legal}
+use Rattle.ch_rank.specs.declared.tally.Tally.{Tally}
+use Rattle.ch_rank.specs.declared.outcome.Outcome.TheVariants.{Refused}
+use Rattle.ch_rank.specs.Entries.{tally_from}
+use Rattle.ch_rank.proofs.Entering.{opening_waits, unknown}
+use Rattle.ch_rank.proofs.Measuring.{none_kept, nothing_known}
 use Rattle.ch_grid.specs.Grid.{is_within}
 use Rattle.ch_grid.proofs.Sizes.{within_facts}
 use Rattle.std.specs.List.{IsDistinct}
@@ -111,21 +115,40 @@ length_none : (n : ℕ) → length (replicate {A = Option Outcome} n None) ≡ n
 length_none zero = refl
 length_none (suc n) = ap (λ k. suc k) (length_none n)
 
+length_fresh : (n : ℕ) (y : Tally) → length (replicate {A = Tally} n y) ≡ n
+length_fresh zero y = refl
+length_fresh (suc n) y = ap (λ k. suc k) (length_fresh n y)
+
+fresh : (n t : ℕ) (y : Tally) → get_or (replicate n y) t y ≡ y
+fresh zero t y = refl
+fresh (suc n) zero y = refl
+fresh (suc n) (suc t) y = fresh n t y
+
+pub fresh_tallies : (n r : ℕ) → replicate n (record { left = r; least = Refused }) ≡ replicate n (tally_from r [])
+fresh_tallies n r = let e : r ≡ r - 0 = omega arith in λ i. replicate n (record { left = e i; least = Refused })
+
 -- a search that begins
-pub started : (ps items : List Param) (g : Game) (os : List (Option Outcome)) (es : List Costed) (slice : List ℕ) (most n : ℕ) → items ≡ ps → g ≡ opening (sizes ps) → os ≡ replicate n None → es ≡ [] → n ≡ count (sizes ps) → length g.points ≤ count g.sizes →
-    most ≡ bound slice → slice ≡ g.sizes → most < 2 ^ 63 → IsSearch items g os es None most
-started ps items g os es slice most n items_are game none_yet no_entries points fits most_is slice_is small =
+pub started : (ps items : List Param) (rep : ℕ) (g : Game) (os : List (Option Outcome)) (ts : List Tally) (es : List Costed) (slice : List ℕ) (most n : ℕ) → (1 ≤ rep) × (rep ≤ 9) → items ≡ ps → g ≡ opening (sizes ps) → os ≡ replicate n None → ts ≡ replicate n (tally_from rep []) → es ≡ [] → n ≡ count (sizes ps) → n ≤ 65536 → length g.points ≤ count g.sizes →
+    most ≡ bound slice → slice ≡ g.sizes → most < 2 ^ 63 → IsSearch items rep g os ts es None 0 most
+started ps items rep g os ts es slice most n few items_are game none_yet none_left no_entries points small_grid fits most_is slice_is small =
     let z : g.sizes ≡ sizes ps = ap (λ (h : Game). h.sizes) game in
-    subst (λ (v : List Param). IsSearch v g os es None most) (sym items_are)
-    (subst (λ (v : List Costed). IsSearch ps g os v None most) (sym no_entries)
-    (subst (λ (v : List (Option Outcome)). IsSearch ps g v [] None most) (sym none_yet) (record {
+    subst (λ (v : List Param). IsSearch v rep g os ts es None 0 most) (sym items_are)
+    (subst (λ (v : List Costed). IsSearch ps rep g os ts v None 0 most) (sym no_entries)
+    (subst (λ (v : List Tally). IsSearch ps rep g os v [] None 0 most) (sym none_left)
+    (subst (λ (v : List (Option Outcome)). IsSearch ps rep g v (replicate n (tally_from rep [])) [] None 0 most) (sym none_yet) (record {
+      repeat = few;
       sizes_are = z;
-      game = game ∙ opening_waits (sizes ps);
-      outcomes_are = unknown n;
+      game = game ∙ opening_waits rep (sizes ps) few.0;
+      outcomes_are = λ t. unknown n t ∙ sym (nothing_known rep t few.0);
+      tallies_are = λ t. fresh n t (tally_from rep []);
       long = length_none n ∙ (points ∙ ap count (sym z));
+      tallies_long = length_fresh n (tally_from rep []) ∙ (points ∙ ap count (sym z));
       within = fits;
-      legal = none_legal (length g.points);
+      legal = refl;
+      kept = none_kept (length g.points) rep few.0;
       best_is = refl;
+      versions_are = refl;
+      points_few = omega (arith, points, small_grid);
       most_is = most_is ∙ ap bound (slice_is ∙ z);
       small = small;
-    })))
+    }))))

@@ -1,5 +1,5 @@
 -- The trials without an outcome, from a number on.
-use Rattle.std.proofs.Common.{◌≡◌, ℕ, zero, suc, ◌+◌, ◌-◌, ◌<◌, ◌≤◌, Bool, true, false, cond, not, List, [], ◌∷◌, length, get_or, Option, Some, None, is_some, refl, sym, ap, ◌∙◌, subst, arith, ◌⊎◌, inl, inr}
+use Rattle.std.proofs.Common.{IsSome, ◌≡◌, ℕ, zero, suc, ◌+◌, ◌-◌, ◌<◌, ◌≤◌, Bool, true, false, cond, not, List, [], ◌∷◌, length, get_or, Option, Some, None, is_some, refl, sym, ap, ◌∙◌, subst, arith, ◌⊎◌, inl, inr}
 use Rattle.std.specs.List.{range_with_len}
 use Rattle.std.specs.Prelude.{filter}
 use Rattle.std.proofs.lemmas.List.{get_or_default}
@@ -8,10 +8,11 @@ use Rattle.ch_grid.specs.declared.param.Param.{Param}
 use Rattle.ch_grid.specs.Grid.{sizes}
 use Rattle.ch_rank.specs.declared.outcome.Outcome.{Outcome}
 use Rattle.ch_rank.specs.declared.outcome.Costed.{Costed}
+use Rattle.ch_rank.specs.declared.tally.Tally.{Tally}
 use Rattle.ch_rank.specs.declared.phase.Phase.TheVariants.{Converged}
 use Rattle.ch_rank.specs.Search.{Game, Known, search_on}
 use Rattle.ch_rank.specs.Board.{known_by}
-use Rattle.ch_rank.specs.Entries.{known, IsSearch, Searched, played, pending}
+use Rattle.ch_rank.specs.Entries.{known, known_in, IsSearch, Searched, played, pending}
 use Rattle.ch_rank.proofs.Entering.{game_now}
 use Rattle.ch_rank.proofs.Ending.{old_known, ends, ended}
 
@@ -133,18 +134,18 @@ all_between k (suc n) a e t l h = at (which a t l) (all_between k n (a + 1) (non
     at (inr z) f = f z (omega arith)
 
 pub none_waits : (s : Searched) → length (pending s) ≡ 0 → (played s).phase ≡ Converged
-none_waits s e = ends s.grid (known s.entries) (λ t h. all_between (known s.entries) (length (played s).points) 0 e t (omega arith) (omega arith))
+none_waits s e = ends s.grid (known_in s) (λ t h. all_between (known_in s) (length (played s).points) 0 e t (omega arith) (omega arith))
 
 pub end_waits : (s : Searched) → (played s).phase ≡ Converged → length (pending s) ≡ 0
 end_waits s e =
-    let d = ended s.grid (known s.entries) e in
+    let d = ended s.grid (known_in s) e in
     let n : ℕ = length (played s).points in
     let z : n + 0 ≡ n = omega arith in
-    ap (λ m. length (unknown_from (known s.entries) 0 m)) (sym z) ∙ ap (λ (xs : List ℕ). length xs) (skip (known s.entries) n 0 0 (λ t l h. let x = d.above t (omega arith) in (x.0, x.1)))
+    ap (λ m. length (unknown_from (known_in s) 0 m)) (sym z) ∙ ap (λ (xs : List ℕ). length xs) (skip (known_in s) n 0 0 (λ t l h. let x = d.above t (omega arith) in (x.0, x.1)))
 
 -- a trial's cell in the code
-pub cell_known : (os : List (Option Outcome)) (es : List Costed) (t : ℕ) (read : Option Outcome) → ((u : ℕ) → known_by os u ≡ known es u) → t < length os → read ≡ get_or os t read → read ≡ known es t
-cell_known os es t read are h e = e ∙ (get_or_default os t read None h ∙ are t)
+pub cell_known : (rep : ℕ) (os : List (Option Outcome)) (es : List Costed) (t : ℕ) (read : Option Outcome) → ((u : ℕ) → known_by os u ≡ known rep es u) → t < length os → read ≡ get_or os t read → read ≡ known rep es t
+cell_known rep os es t read are h e = e ∙ (get_or_default os t read None h ∙ are t)
 
 pub is_none_of : (x : Option Outcome) (r : Bool) → is_some x ≡ not r → r ≡ true → x ≡ None
 is_none_of None r e f = refl
@@ -156,23 +157,30 @@ is_some_of None true e f = absurd (cc)
 is_some_of None false e f = absurd (cc)
 is_some_of (Some o) r e f = (o, refl)
 
-pub waiting_now : (ps : List Param) (g : Game) (os : List (Option Outcome)) (es : List Costed) (b : Option Costed) (most spare first : ℕ) (now : Searched) → IsSearch ps g os es b most → record { grid = ps; entries = es; spare = spare } ≡ now → first ≡ length g.points - length g.asked → IsAt (known now.entries) (pending now) (length (played now).points) first 0
-waiting_now ps g os es b most spare first now s v e =
-    let k : Known = known es in
+pub waiting_now : (ps : List Param) (rep : ℕ) (g : Game) (os : List (Option Outcome)) (ts : List Tally) (es : List Costed) (b : Option Costed) (vs most spare first : ℕ) (now : Searched) → IsSearch ps rep g os ts es b vs most → record { grid = ps; repeat = rep; entries = es; spare = spare } ≡ now → first ≡ length g.points - length g.asked → IsAt (known_in now) (pending now) (length (played now).points) first 0
+waiting_now ps rep g os ts es b vs most spare first now s v e =
+    let k : Known = known rep es in
     let a : IsAt k (unknown_from k 0 (length g.points)) (length g.points) (length g.points - length g.asked) 0 = at_start k (unknown_from k 0 (length g.points)) (length g.points) (length g.points - length g.asked) (omega arith) (waiting ps k g s.game) in
     let f : IsAt k (unknown_from k 0 (length g.points)) (length g.points) first 0 = subst (λ m. IsAt k (unknown_from k 0 (length g.points)) (length g.points) m 0) (sym e) a in
     let p : IsAt k (unknown_from k 0 (length (search_on (sizes ps) k).points)) (length (search_on (sizes ps) k).points) first 0 = subst (λ (x : Game). IsAt k (unknown_from k 0 (length x.points)) (length x.points) first 0) s.game f in
-    subst (λ (x : Searched). IsAt (known x.entries) (pending x) (length (played x).points) first 0) v p
+    subst (λ (x : Searched). IsAt (known_in x) (pending x) (length (played x).points) first 0) v p
 
 -- what a look at a trial's cell tells
 pub record Cell (now : Searched) (t : ℕ) (read : Option Outcome) : Type 0 where
   pub here : t < length (played now).points
-  pub is : read ≡ known now.entries t
+  pub is : read ≡ known_in now t
 
-pub cell_now : (ps : List Param) (g : Game) (os : List (Option Outcome)) (es : List Costed) (b : Option Costed) (most spare t end : ℕ) (now : Searched) (read : Option Outcome) → IsSearch ps g os es b most → record { grid = ps; entries = es; spare = spare } ≡ now → end ≡ length g.points → t < end → read ≡ get_or os t read → Cell now t read
-cell_now ps g os es b most spare t end now read s v n h e =
-    let p = ap (λ (x : Game). length x.points) (game_now ps g os es b most spare now s v) in
+pub cell_now : (ps : List Param) (rep : ℕ) (g : Game) (os : List (Option Outcome)) (ts : List Tally) (es : List Costed) (b : Option Costed) (vs most spare t end : ℕ) (now : Searched) (read : Option Outcome) → IsSearch ps rep g os ts es b vs most → record { grid = ps; repeat = rep; entries = es; spare = spare } ≡ now → end ≡ length g.points → t < end → read ≡ get_or os t read → Cell now t read
+cell_now ps rep g os ts es b vs most spare t end now read s v n h e =
+    let p = ap (λ (x : Game). length x.points) (game_now ps rep g os ts es b vs most spare now s v) in
     record {
       here = omega (arith, p);
-      is = cell_known os es t read s.outcomes_are (omega (arith, s.long, s.within)) e ∙ ap (λ (x : Searched). known x.entries t) v;
+      is = cell_known rep os es t read s.outcomes_are (omega (arith, s.long, s.within)) e ∙ ap (λ (x : Searched). known_in x t) v;
     }
+
+-- a trial below the first one that may wait has its outcome
+pub known_before : (ps : List Param) (rep : ℕ) (g : Game) (os : List (Option Outcome)) (ts : List Tally) (es : List Costed) (b : Option Costed) (vs most spare first : ℕ) (now : Searched) → IsSearch ps rep g os ts es b vs most → record { grid = ps; repeat = rep; entries = es; spare = spare } ≡ now → first ≡ length g.points - length g.asked → (t : ℕ) → t < first → IsSome (known_in now t)
+known_before ps rep g os ts es b vs most spare first now s v e t h =
+    let p : g ≡ played now = game_now ps rep g os ts es b vs most spare now s v in
+    let o = old_known now.grid (known_in now) t (omega (arith, h, e, ap (λ (x : Game). length x.points) p, ap (λ (x : Game). length x.asked) p)) in
+    subst (λ (x : Option Outcome). IsSome x) (sym o.1) refl

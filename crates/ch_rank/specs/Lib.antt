@@ -5,6 +5,7 @@ pub mod Search
 pub mod Rules
 pub mod Board
 pub mod Leads
+pub mod Growth
 pub mod Ranks
 pub mod Entries
 pub mod Course

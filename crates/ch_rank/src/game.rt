@@ -408,7 +408,8 @@ impl Game {
 
     pub(crate) fn point_of(&self, trial: u32) -> &[u32]
         requires { trial < length self.now.points }
-        ensures { result.now ≡ slice_index_or self.now.points trial [] }
+        ensures value { result.now ≡ slice_index_or self.now.points trial [] }
+        ensures in_grid { is_point self.now.sizes result.now ≡ true }
     {
         let trials = &self.trials;
         trials.point_of(trial)

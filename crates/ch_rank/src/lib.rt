@@ -5,6 +5,8 @@
 
 mod bound;
 mod game;
+mod laws;
+mod measure;
 mod moves;
 mod outcome;
 mod phase;
@@ -13,10 +15,12 @@ mod ranks;
 mod row;
 mod rows;
 mod search;
+mod tally;
 #[cfg(test)]
 mod tests;
 mod trials;
 
+pub use laws::{beginnings_are_legal, outcomes_and_points_stay, trials_are_points};
 pub use outcome::{Costed, Outcome};
 pub use phase::Phase;
 pub use ranks::Rank;

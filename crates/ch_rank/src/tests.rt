@@ -55,10 +55,21 @@ fn param(low: i64, high: i64) -> Param {
 }
 
 fn start(rt: &impl Abort, alloc: Global, params: &[Param]) -> Result<Search, Fail> {
+    start_repeated(rt, alloc, params, 1)
+}
+
+/// A search that measures each trial so many times.
+fn start_repeated(
+    rt: &impl Abort,
+    alloc: Global,
+    params: &[Param],
+    repeat: u32,
+) -> Result<Search, Fail> {
+    assert!(rt; 1 <= repeat && repeat <= 9);
     let list = List::from_slice(alloc, params)?;
     assert!(rt; list.len() <= 6);
     match Grid::of(list) {
-        Ok(grid) => Ok(Search::start(alloc, &grid)?),
+        Ok(grid) => Ok(Search::start(alloc, &grid, repeat)?),
         Err(_) => panic!(rt; "the parameters are within the limits"),
     }
 }
@@ -319,5 +330,32 @@ fn grids_at_their_limits(rt: HostRuntime) -> Result<(), Fail> {
             "{costs:?}"
         );
     }
+    Ok(())
+}
+
+#[test]
+fn a_trial_is_measured_several_times(rt: HostRuntime) -> Result<(), Fail> {
+    let mut search = start_repeated(&rt, rt.alloc(), &[param(5, 5)], 3)?;
+    let late = Err(RankError::NotPending { trial: 0 });
+    let rows = [
+        (Outcome::Cost(12), Ok(()), 2, None),
+        (Outcome::Refused, late, 2, None),
+        (Outcome::Cost(15), Ok(()), 1, None),
+        (Outcome::Cost(11), Ok(()), 0, Some(Outcome::Cost(11))),
+        (Outcome::Cost(1), late, 0, Some(Outcome::Cost(11))),
+    ];
+    for (outcome, answer, left, best) in rows {
+        assert_eq!(rt; report(&mut search, 0, outcome)?, answer, "{outcome:?}");
+        assert!(rt; search.trials() > 0);
+        assert_eq!(rt;
+            (search.left_of(0), best_outcome(&search)),
+            (left, best),
+            "{outcome:?}"
+        );
+    }
+    assert_eq!(rt;
+        (state(&search), search.versions()),
+        ((Phase::Converged, 1, 0), 1)
+    );
     Ok(())
 }

@@ -21,12 +21,14 @@ pub struct TurnSeat<V: Listed> {
 }
 
 impl<V: Listed> TurnSeat<V> {
-    ghost use Rattle.std.specs.Prelude.{◌≡◌};
-    ghost use Rattle.ch_turn.specs.Seats.{own_number, turns_left};
+    ghost use Rattle.std.specs.Prelude.{◌≡◌, ◌<◌};
+    ghost use Rattle.ch_turn.specs.Seats.{own_number, turns_left, HasNumber};
 
-    /// The number that the entries of this seat carry, below 65,536.
+    /// The number that the entries of this seat carry, below 65,536. The seat holds it.
     pub fn number(&self) -> u32
-        ensures { result ≡ own_number self.now }
+        ensures value { result ≡ own_number self.now }
+        ensures small { result < 65536 }
+        ensures held { HasNumber self.now result }
     {
         self.own
     }
