@@ -1,0 +1,7 @@
+pub mod Left
+pub mod NamesFit
+pub mod ArgumentsFit
+pub mod ConditionsFit
+pub mod CommandsFit
+pub mod SectionsFit
+pub mod ValuesFit

@@ -1,0 +1,9 @@
+pub mod Limits
+pub mod Recipes
+pub mod Names
+pub mod Words
+pub mod Arguments
+pub mod Conditions
+pub mod Commands
+pub mod Sections
+pub mod Values
