@@ -1,0 +1,9 @@
+pub mod Rows
+pub mod Events
+pub mod Keeping
+pub mod KeptLeases
+pub mod Legal
+pub mod Leases
+pub mod Lasting
+pub mod Claims
+pub mod Versions
