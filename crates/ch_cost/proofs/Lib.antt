@@ -1,0 +1,3 @@
+pub mod Metering
+pub mod Levels
+mod Examples
