@@ -1,0 +1,25 @@
+pub mod Rolls
+pub mod Values
+pub mod Wrapping
+pub mod Simulation
+pub mod Lists
+pub mod Different
+pub mod Multiples
+pub mod Wide
+pub mod Attained
+pub mod Exact
+pub mod Runs
+pub mod Spacing
+pub mod Sharing
+pub mod Transfers
+pub mod Moving
+pub mod Acts
+pub mod Once
+pub mod Sound
+pub mod Meaning
+pub mod NewPlaces
+pub mod WellFormed
+pub mod Datacopied
+pub mod Inside
+pub mod FlatMeaning
+mod Examples
