@@ -1,0 +1,14 @@
+pub mod Fronts
+pub mod Lays
+pub mod Params
+pub mod Symbols
+pub mod RecipeLays
+pub mod Series
+pub mod ArgsRead
+pub mod CondsRead
+pub mod CommandsRead
+pub mod RecipeRead
+pub mod Lines
+pub mod Printing
+pub mod Written
+pub mod RecipesWritten

@@ -1,0 +1,3 @@
+pub mod Printed
+pub mod Printable
+pub mod Back
