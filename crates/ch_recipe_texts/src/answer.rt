@@ -48,7 +48,7 @@ fn is_read_back(alloc: Global, printed: &Text) -> Result<bool, AllocError> {
     }
 }
 
-/// Adds the text of a recipe, and behind it the forms of its splits' conditions.
+/// Adds the text of a recipe, and behind it the forms of its conditions.
 fn put_recipe(alloc: Global, out: &mut Text, recipe: &Recipe) -> Result<(), AllocError> {
     let printed = print_recipe(alloc, recipe)?;
     if is_read_back(alloc, &printed)? {

@@ -5,3 +5,4 @@ pub mod ConditionsFit
 pub mod CommandsFit
 pub mod SectionsFit
 pub mod ValuesFit
+pub mod RequirementsFit

@@ -7,3 +7,4 @@ pub mod Conditions
 pub mod Commands
 pub mod Sections
 pub mod Values
+pub mod Requirements

@@ -10,6 +10,7 @@ mod limits;
 mod names;
 mod recipe;
 mod refusal;
+mod requirements;
 mod section;
 #[cfg(test)]
 mod tests;
@@ -18,5 +19,6 @@ mod word;
 
 pub use recipe::{Arg, Command, Cond, Of, Recipe, Relation, Term};
 pub use refusal::Refusal;
+pub use requirements::requirement_of;
 pub use section::{ParsedRecipe, parse_recipe};
 pub use values::condition_of;
