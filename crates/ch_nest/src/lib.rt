@@ -29,6 +29,3 @@ pub use run::{
     as_number, extended, greatest_low, is_met, least_high, next_value, run_nest, turns_of,
 };
 pub use walk::{access_inside, body_inside, is_sound};
-
-#[cfg(test)]
-mod tests;

@@ -18,8 +18,3 @@ pub use laws::{
 };
 pub use meaning::{same_meaning, same_meaning_by};
 pub use rule::{AllConflicts, KeepOrder};
-
-#[cfg(test)]
-mod dependence_tests;
-#[cfg(test)]
-mod tests;

@@ -33,7 +33,8 @@ fn put_move(out: &mut Text, number: u32) -> Result<(), AllocError>
     put_number(out, u64::from(number))
 }
 
-fn put_integers(out: &mut Text, numbers: &[i64]) -> Result<(), AllocError>
+/// Adds numbers with commas between them.
+pub fn put_integers(out: &mut Text, numbers: &[i64]) -> Result<(), AllocError>
     ensures { OnOk result (out.new ≡ out.old ++ separated (codes ",") integer_text numbers.now) }
 {
     let Some((first, rest)) = numbers.split_first() else {
@@ -64,18 +65,25 @@ pub fn put_identity(out: &mut Text, identity: &Identity) -> Result<(), AllocErro
     out.append(b")")
 }
 
-/// Adds a cell, as `A[1][2]`, whose array has this name.
-#[tactic(auto, unfolding(crate::specs::Instances::cell_text))]
-pub fn put_cell(out: &mut Text, name: &Text, subscripts: &[i64]) -> Result<(), AllocError>
-    ensures { OnOk result (out.new ≡ out.old ++ cell_text name.now subscripts.now) }
+/// Adds the subscripts of a cell, as `[1][2]`.
+pub fn put_subscripts(out: &mut Text, subscripts: &[i64]) -> Result<(), AllocError>
+    ensures { OnOk result (out.new ≡ out.old ++ flat_map subscript_text subscripts.now) }
 {
-    out.append(name.as_bytes())?;
     for number in subscripts {
         out.append(b"[")?;
         put_integer(out, *number)?;
         out.append(b"]")?;
     }
     Ok(())
+}
+
+/// Adds a cell, as `A[1][2]`, whose array has this name.
+#[tactic(auto, unfolding(crate::specs::Instances::cell_text))]
+pub fn put_cell(out: &mut Text, name: &Text, subscripts: &[i64]) -> Result<(), AllocError>
+    ensures { OnOk result (out.new ≡ out.old ++ cell_text name.now subscripts.now) }
+{
+    out.append(name.as_bytes())?;
+    put_subscripts(out, subscripts)
 }
 
 /// Adds a buffer's name, as `T:0`.

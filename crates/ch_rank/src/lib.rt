@@ -16,8 +16,6 @@ mod row;
 mod rows;
 mod search;
 mod tally;
-#[cfg(test)]
-mod tests;
 mod trials;
 
 pub use laws::{beginnings_are_legal, outcomes_and_points_stay, trials_are_points};

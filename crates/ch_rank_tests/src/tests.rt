@@ -1,4 +1,4 @@
-use super::*;
+use ch_rank::*;
 use ch_affine::List;
 use ch_grid::{Grid, Param};
 use std::alloc::{AllocError, Global};

@@ -4,8 +4,8 @@ ghost use Rattle.std.specs.Prelude.{◌≡◌, pos, IfOk};
 ghost use Rattle.ch_nest.specs.declared.nest.Expr.TheVariants.{Number, Read};
 ghost use Rattle.ch_order.specs.Samples.{access, assigned, last_write, reader_or_writer, three};
 
-use crate::same_meaning;
-use crate::tests::{one, precedes};
+use ch_order::same_meaning;
+use ch_order::tests::{one, precedes};
 use ch_affine::{Aff, List};
 use ch_nest::{Access, Body, Expr, Sub};
 use ch_timed::{Element, Identity, Label, Timed};
@@ -77,7 +77,7 @@ fn last_write(alloc: Global, k: i8, place: i64) -> Result<Element, AllocError>
 impl Timed for Assignments {
     ghost list = { λ t. three t.reader_first t.between t.k };
 
-    #[tactic(auto, using(crate::proofs::SampleLists::three_fine))]
+    #[tactic(auto, using(ch_order::proofs::SampleLists::three_fine))]
     fn known(&self) {
         let _reader_first = self.reader_first;
         let _between = self.between;

@@ -1,6 +1,6 @@
 //! Programs that are refused, with the byte that the refusal names, and programs that are accepted.
 
-use crate::{ParsedProgram, parse_program};
+use ch_nestparse::{ParsedProgram, parse_program};
 use ch_affine::Text;
 use ch_lex::{Code2, ParseError, tokens};
 use std::alloc::Global;
