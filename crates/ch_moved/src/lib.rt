@@ -6,8 +6,6 @@ mod bounds;
 pub mod causes;
 pub mod groups;
 mod reindex;
-#[cfg(test)]
-mod reindex_tests;
 mod space;
 mod substitute;
 mod ties;

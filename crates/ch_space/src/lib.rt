@@ -11,8 +11,6 @@ mod judge;
 mod level;
 mod nest_pieces;
 mod nest_space;
-#[cfg(test)]
-mod nest_space_tests;
 mod piece;
 mod reading;
 mod rows;

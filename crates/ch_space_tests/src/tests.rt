@@ -1,6 +1,6 @@
 //! Small nests and their spaces.
 
-use crate::{Space, SpaceError, count, of_nest, piece_count, pieces, places};
+use ch_space::{Space, SpaceError, count, of_nest, piece_count, pieces, places};
 use ch_affine::{Aff, List, Text};
 use ch_nest::{Access, ArrayDecl, Body, Expr, Item, Nest, Sub};
 use ch_timed::Label;
