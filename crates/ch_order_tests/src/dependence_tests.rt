@@ -5,7 +5,7 @@ ghost use Rattle.ch_nest.specs.declared.nest.Expr.TheVariants.{Number, Read};
 ghost use Rattle.ch_order.specs.Samples.{access, assigned, last_write, reader_or_writer, three};
 
 use ch_order::same_meaning;
-use ch_order::tests::{one, precedes};
+use crate::tests::{one, precedes};
 use ch_affine::{Aff, List};
 use ch_nest::{Access, Body, Expr, Sub};
 use ch_timed::{Element, Identity, Label, Timed};
