@@ -1,5 +1,5 @@
 -- The lines of a session: what its search was given and what it came to.
-use Rattle.std.specs.Prelude.{ℕ, suc, Bool, true, ◌&&◌, if◌then◌else◌, Option, Some, None, List, [], ◌∷◌, ◌++◌, codes, length}
+use Rattle.std.specs.Prelude.{ℕ, Bool, true, ◌&&◌, if◌then◌else◌, Option, Some, None, List, [], ◌++◌, codes, length}
 use Rattle.std.specs.List.{list_all}
 use Rattle.ch_affine.specs.Form.{Form}
 use Rattle.ch_constrain.specs.Nearest.{is_admissible, nearest}
@@ -10,6 +10,7 @@ use Rattle.ch_nest.specs.declared.nest.ArrayDecl.{ArrayDecl}
 use Rattle.ch_print.specs.Numbers.{number_text}
 use Rattle.ch_rank.specs.declared.phase.Phase.{Phase}
 use Rattle.ch_rank.specs.declared.phase.Phase.TheVariants as phases
+use Rattle.ch_report.specs.Numbered.{numbered}
 use Rattle.ch_report.specs.Points.{point_text}
 use Rattle.ch_report.specs.Refusals.{refusal_text}
 use Rattle.ch_report.specs.declared.part.BestLine.{BestLine}
@@ -40,11 +41,6 @@ entry_line params arrays k e =
     codes "entry " ++ number_text k ++ codes " trial " ++ number_text e.trial ++ codes " at " ++ point_text params e.point
     ++ codes " " ++ found_text arrays e.found ++ codes "\n"
 
--- the lines of entries, counted on from k
-abbrev pub entry_lines : List Param → List ArrayDecl → ℕ → List EntryLine → List ℕ
-entry_lines params arrays k [] = []
-entry_lines params arrays k (e ∷ es) = entry_line params arrays k e ++ entry_lines params arrays (suc k) es
-
 abbrev pub cost_text : Option ℕ → List ℕ
 cost_text None = codes "top"
 cost_text (Some cost) = number_text cost
@@ -54,10 +50,6 @@ unfoldable pub rank_line : List Param → ℕ → RankLine → List ℕ
 rank_line params k r =
     codes "rank " ++ number_text k ++ codes " place " ++ number_text r.place ++ codes " at " ++ point_text params r.point
     ++ codes " cost " ++ cost_text r.cost ++ codes "\n"
-
-abbrev pub rank_lines : List Param → ℕ → List RankLine → List ℕ
-rank_lines params k [] = []
-rank_lines params k (r ∷ rs) = rank_line params k r ++ rank_lines params (suc k) rs
 
 -- what is built at a point that isn't admissible: the nearest admissible one
 abbrev pub nearest_text : List Param → Option (List ℕ) → List ℕ
@@ -86,8 +78,8 @@ head_line name entries steps phase =
 -- a session's head, its entries and its ranks counted from 1, and its best point
 unfoldable pub session_lines : Tuning → SessionPart → List ℕ
 session_lines t part =
-    head_line t.name.now (length part.entries) part.steps part.phase ++ entry_lines t.grid.now.params t.arrays.now 1 part.entries
-    ++ rank_lines t.grid.now.params 1 part.ranks ++ best_line t.grid.now.params t.conditions.now part.best
+    head_line t.name.now (length part.entries) part.steps part.phase ++ numbered (entry_line t.grid.now.params t.arrays.now) 1 part.entries
+    ++ numbered (rank_line t.grid.now.params) 1 part.ranks ++ best_line t.grid.now.params t.conditions.now part.best
 
 -- each point of the part is one of the grid
 abbrev pub best_inside : List Param → Option BestLine → Bool

@@ -5,7 +5,8 @@ ghost use Rattle.ch_constrain.specs.Nearest.{nearest};
 ghost use Rattle.ch_grid.specs.Grid.{sizes};
 ghost use Rattle.ch_grid.specs.Points.{is_point};
 ghost use Rattle.ch_print.specs.Numbers.{number_text};
-ghost use Rattle.ch_report.specs.Sessions.{best_inside, best_line, cost_text, entry_line, entry_lines, found_text, head_line, is_inside, nearest_text, point_line, rank_line, rank_lines, session_lines, used_text};
+ghost use Rattle.ch_report.specs.Numbered.{numbered};
+ghost use Rattle.ch_report.specs.Sessions.{best_inside, best_line, cost_text, entry_line, found_text, head_line, is_inside, nearest_text, point_line, rank_line, session_lines, used_text};
 
 use crate::part::{BestLine, EntryLine, Found, RankLine, SessionPart};
 use crate::phases::put_phase;
@@ -78,7 +79,7 @@ fn put_entries(
     entries: &[EntryLine],
 ) -> Result<(), AllocError>
     requires { IsTrue (list_all (λ e. is_point (sizes tuning.grid.now.params) e.point) entries.now) }
-    ensures { OnOk result (out.new ≡ out.old ++ entry_lines tuning.grid.now.params tuning.arrays.now 1 entries.now) }
+    ensures { OnOk result (out.new ≡ out.old ++ numbered (entry_line tuning.grid.now.params tuning.arrays.now) 1 entries.now) }
 {
     for i in 0..entries.len() {
         put_entry(alloc, out, tuning, i as u64 + 1, &entries[i])?;
@@ -126,7 +127,7 @@ fn put_ranks(
     ranks: &[RankLine],
 ) -> Result<(), AllocError>
     requires { IsTrue (list_all (λ r. is_point (sizes grid.now.params) r.point) ranks.now) }
-    ensures { OnOk result (out.new ≡ out.old ++ rank_lines grid.now.params 1 ranks.now) }
+    ensures { OnOk result (out.new ≡ out.old ++ numbered (rank_line grid.now.params) 1 ranks.now) }
 {
     for i in 0..ranks.len() {
         put_rank(alloc, out, grid, i as u64 + 1, &ranks[i])?;
