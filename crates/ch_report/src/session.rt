@@ -21,7 +21,7 @@ use ch_rank::Phase;
 use std::alloc::{AllocError, Global};
 
 /// What a session tunes, as far as its lines tell of it.
-#[derive(Clone, Copy)]
+#[derive(Drop)]
 pub struct Tuning<'a> {
     pub name: &'a Text,
     /// The values of the recipe's parameters.
@@ -53,12 +53,12 @@ fn put_cost_of(out: &mut Text, cost: u64) -> Result<(), AllocError>
 fn put_entry(
     alloc: Global,
     out: &mut Text,
-    tuning: Tuning,
+    tuning: &Tuning<'_>,
     k: u64,
     entry: &EntryLine,
 ) -> Result<(), AllocError>
-    requires { IsTrue (is_point (sizes tuning.grid.now.params) entry.now.point) }
-    ensures { OnOk result (out.new ≡ out.old ++ entry_line tuning.grid.now.params tuning.arrays.now k entry.now) }
+    requires { IsTrue (is_point (sizes tuning.now.grid.now.params) entry.now.point) }
+    ensures { OnOk result (out.new ≡ out.old ++ entry_line tuning.now.grid.now.params tuning.now.arrays.now k entry.now) }
 {
     out.append(b"entry ")?;
     put_number(out, k)?;
@@ -75,11 +75,11 @@ fn put_entry(
 fn put_entries(
     alloc: Global,
     out: &mut Text,
-    tuning: Tuning,
+    tuning: &Tuning<'_>,
     entries: &[EntryLine],
 ) -> Result<(), AllocError>
-    requires { IsTrue (list_all (λ e. is_point (sizes tuning.grid.now.params) e.point) entries.now) }
-    ensures { OnOk result (out.new ≡ out.old ++ numbered (entry_line tuning.grid.now.params tuning.arrays.now) 1 entries.now) }
+    requires { IsTrue (list_all (λ e. is_point (sizes tuning.now.grid.now.params) e.point) entries.now) }
+    ensures { OnOk result (out.new ≡ out.old ++ numbered (entry_line tuning.now.grid.now.params tuning.now.arrays.now) 1 entries.now) }
 {
     for i in 0..entries.len() {
         put_entry(alloc, out, tuning, i as u64 + 1, &entries[i])?;
@@ -158,11 +158,16 @@ fn put_nearest(
 }
 
 /// Adds the admissible point that is used where the point isn't admissible.
-fn put_used(alloc: Global, out: &mut Text, tuning: Tuning, point: &[u32]) -> Result<(), AllocError>
-    requires conditions { All (λ row. length row.coefs ≡ length tuning.grid.now.params) tuning.conditions.now }
-    requires point { IsTrue (is_point (sizes tuning.grid.now.params) point.now) }
+fn put_used(
+    alloc: Global,
+    out: &mut Text,
+    tuning: &Tuning<'_>,
+    point: &[u32],
+) -> Result<(), AllocError>
+    requires conditions { All (λ row. length row.coefs ≡ length tuning.now.grid.now.params) tuning.now.conditions.now }
+    requires point { IsTrue (is_point (sizes tuning.now.grid.now.params) point.now) }
     ensures { OnOk result (out.new
-        ≡ out.old ++ used_text tuning.grid.now.params tuning.conditions.now point.now) }
+        ≡ out.old ++ used_text tuning.now.grid.now.params tuning.now.conditions.now point.now) }
 {
     if is_admissible(alloc, tuning.grid, tuning.conditions, point)? {
         return Ok(());
@@ -173,13 +178,13 @@ fn put_used(alloc: Global, out: &mut Text, tuning: Tuning, point: &[u32]) -> Res
 fn put_best_point(
     alloc: Global,
     out: &mut Text,
-    tuning: Tuning,
+    tuning: &Tuning<'_>,
     best: &BestLine,
 ) -> Result<(), AllocError>
-    requires conditions { All (λ row. length row.coefs ≡ length tuning.grid.now.params) tuning.conditions.now }
-    requires point { IsTrue (is_point (sizes tuning.grid.now.params) best.now.point) }
+    requires conditions { All (λ row. length row.coefs ≡ length tuning.now.grid.now.params) tuning.now.conditions.now }
+    requires point { IsTrue (is_point (sizes tuning.now.grid.now.params) best.now.point) }
     ensures { OnOk result (out.new
-        ≡ out.old ++ point_line tuning.grid.now.params tuning.conditions.now best.now) }
+        ≡ out.old ++ point_line tuning.now.grid.now.params tuning.now.conditions.now best.now) }
 {
     let point = best.point.as_slice();
     out.append(b"best at ")?;
@@ -194,13 +199,13 @@ fn put_best_point(
 fn put_best(
     alloc: Global,
     out: &mut Text,
-    tuning: Tuning,
+    tuning: &Tuning<'_>,
     best: &Option<BestLine>,
 ) -> Result<(), AllocError>
-    requires conditions { All (λ row. length row.coefs ≡ length tuning.grid.now.params) tuning.conditions.now }
-    requires point { IsTrue (best_inside tuning.grid.now.params best.now) }
+    requires conditions { All (λ row. length row.coefs ≡ length tuning.now.grid.now.params) tuning.now.conditions.now }
+    requires point { IsTrue (best_inside tuning.now.grid.now.params best.now) }
     ensures { OnOk result (out.new
-        ≡ out.old ++ best_line tuning.grid.now.params tuning.conditions.now best.now) }
+        ≡ out.old ++ best_line tuning.now.grid.now.params tuning.now.conditions.now best.now) }
 {
     match best {
         None => out.append(b"best none\n"),
@@ -235,12 +240,12 @@ fn put_head(
 pub fn put_session(
     alloc: Global,
     out: &mut Text,
-    tuning: Tuning,
+    tuning: &Tuning<'_>,
     part: &SessionPart,
 ) -> Result<(), AllocError>
-    requires conditions { All (λ row. length row.coefs ≡ length tuning.grid.now.params) tuning.conditions.now }
-    requires inside { IsTrue (is_inside tuning.grid.now.params part.now) }
-    ensures { OnOk result (out.new ≡ out.old ++ session_lines tuning part.now) }
+    requires conditions { All (λ row. length row.coefs ≡ length tuning.now.grid.now.params) tuning.now.conditions.now }
+    requires inside { IsTrue (is_inside tuning.now.grid.now.params part.now) }
+    ensures { OnOk result (out.new ≡ out.old ++ session_lines tuning.now part.now) }
 {
     let entries = part.entries.as_slice();
     put_head(
