@@ -27,8 +27,8 @@ pub(crate) fn point_at(alloc: Global, grid: &Grid, number: u32) -> Result<List<u
     Ok(point)
 }
 
-/// The parameters' values at a point.
-pub(crate) fn values_at(alloc: Global, grid: &Grid, point: &[u32]) -> Result<List<i64>, AllocError>
+/// The value of each parameter at a point of a grid, which has an index for each of them.
+pub fn values_at(alloc: Global, grid: &Grid, point: &[u32]) -> Result<List<i64>, AllocError>
     requires { IsTrue (is_point (sizes grid.now.params) point.now) }
     ensures { IfOk result (λ v. v ≡ values grid.now.params point.now) }
 {

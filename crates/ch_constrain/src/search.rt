@@ -88,8 +88,8 @@ fn nearest_found(
     Ok(scan(grid, rows, point, indices, numbers))
 }
 
-/// Whether a point of the grid is admissible.
-fn is_admissible(
+/// Whether a point of the grid is admissible: whether each row, over the parameters' values, is at least 0 there.
+pub fn is_admissible(
     alloc: Global,
     grid: &Grid,
     rows: &[Aff],

@@ -1,0 +1,4 @@
+pub mod Numbered
+pub mod Points
+pub mod Refusals
+pub mod Sessions

@@ -1,0 +1,14 @@
+//! The texts of answers: points of a grid, refusals of recipes, and what a session came to.
+#![tactic(auto)]
+
+mod part;
+mod phases;
+mod points;
+mod refusals;
+mod session;
+
+pub use part::{BestLine, EntryLine, Found, RankLine, SessionPart};
+pub use phases::put_phase;
+pub use points::put_point;
+pub use refusals::put_refusal;
+pub use session::{Tuning, put_session};

@@ -1,0 +1,54 @@
+//! Points of a grid.
+ghost use Rattle.std.specs.Prelude.{◌≡◌, ◌++◌, IsTrue, OnOk, codes};
+ghost use Rattle.std.specs.List.{flat_map};
+ghost use Rattle.ch_grid.specs.Grid.{sizes};
+ghost use Rattle.ch_grid.specs.Points.{is_point};
+ghost use Rattle.ch_print.specs.Lists.{behind, separated};
+ghost use Rattle.ch_print.specs.Numbers.{integer_text};
+ghost use Rattle.ch_report.specs.Points.{point_text};
+
+use ch_affine::Text;
+use ch_constrain::values_at;
+use ch_grid::Grid;
+use ch_print::put_integer;
+use std::alloc::{AllocError, Global};
+
+/// Adds values, each behind a comma.
+fn put_more(out: &mut Text, values: &[i64]) -> Result<(), AllocError>
+    ensures { OnOk result (out.new ≡ out.old ++ flat_map (behind (codes ",") integer_text) values.now) }
+{
+    for value in values {
+        out.append(b",")?;
+        put_integer(out, *value)?;
+    }
+    Ok(())
+}
+
+/// Adds values with commas between them.
+fn put_values(out: &mut Text, values: &[i64]) -> Result<(), AllocError>
+    ensures { OnOk result (out.new ≡ out.old ++ separated (codes ",") integer_text values.now) }
+{
+    let Some((first, rest)) = values.split_first() else {
+        return Ok(());
+    };
+    put_integer(out, *first)?;
+    put_more(out, rest)
+}
+
+/// Adds a point of a grid by the parameters' values, as `(3,4)`, and `()` where there are no parameters. The point has an
+/// index for each parameter.
+#[tactic(auto, unfolding(crate::specs::Points::point_text))]
+pub fn put_point(
+    alloc: Global,
+    out: &mut Text,
+    grid: &Grid,
+    point: &[u32],
+) -> Result<(), AllocError>
+    requires { IsTrue (is_point (sizes grid.now.params) point.now) }
+    ensures { OnOk result (out.new ≡ out.old ++ point_text grid.now.params point.now) }
+{
+    let values = values_at(alloc, grid, point)?;
+    out.append(b"(")?;
+    put_values(out, values.as_slice())?;
+    out.append(b")")
+}
