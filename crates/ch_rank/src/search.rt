@@ -176,6 +176,15 @@ impl Search {
         game.point_of(trial)
     }
 
+    /// How many places the last fully costed simplex has; none before there is one.
+    #[tactic(auto, using(crate::proofs::Ranking::length_order))]
+    pub fn places(&self) -> u32
+        ensures value { result ≡ length (ranks (played self.now).simplex) }
+        ensures few { result ≤ 14 }
+    {
+        self.game.simplex().len() as u32
+    }
+
     /// The place at rank `r`, counted from 0: the places of the last fully costed simplex in order of outcome, then of place.
     pub fn rank_at(&self, r: u32) -> Option<Rank>
         ensures value { result

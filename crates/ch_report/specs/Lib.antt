@@ -2,3 +2,4 @@ pub mod Numbered
 pub mod Points
 pub mod Refusals
 pub mod Sessions
+pub mod Summary
