@@ -6,11 +6,11 @@ mod phases;
 mod points;
 mod refusals;
 mod session;
-mod summary;
+mod summaries;
 
 pub use part::{BestLine, EntryLine, Found, RankLine, SessionPart};
 pub use phases::put_phase;
 pub use points::put_point;
 pub use refusals::put_refusal;
 pub use session::{Tuning, put_session};
-pub use summary::summary;
+pub use summaries::summary;

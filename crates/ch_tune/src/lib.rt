@@ -2,7 +2,7 @@
 #![tactic(auto)]
 
 mod judge;
-mod tune;
+mod tuning;
 
 pub use judge::Judge;
-pub use tune::tune;
+pub use tuning::tune;

@@ -6,7 +6,7 @@ use Rattle.ch_grid.specs.Points.{is_point}
 use Rattle.ch_rank.specs.Entries.{played}
 use Rattle.ch_rank.specs.Ranks.{rank_of, ranks}
 use Rattle.ch_report.specs.Summary.{line_of}
-use Rattle.ch_report.proofs.summary.rank_lines.Given as goal
+use Rattle.ch_report.proofs.summaries.rank_lines.Given as goal
 
 abbrev pub invariant-loop-r : goal.invariant-loop-r
 invariant-loop-r l = record {
