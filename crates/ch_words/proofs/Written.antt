@@ -86,7 +86,7 @@ whole_from (b ∷ bs) n h =
     elim (cases_eq b 45) [
       | inl e ↦ let bad : None ≡ Some n = sym (starts_with_minus bs b e) ∙ h in cc
       | inr ne ↦ ap (λ t. if t then option_and_then below_zero (natural_of largest_value bs) else option_map pos (natural_of largest_value (b ∷ bs))) (ne_eqb b 45 ne)
-        ∙ ap (option_map pos) h
+          ∙ ap (option_map pos) h
     ]
 
 pub positive_written : (zeros n : ℕ) → n ≤ largest_value → 0 < zeros + n → whole_of (decimal_text zeros n) ≡ Some (pos n)
@@ -101,8 +101,8 @@ digits_alone most (b ∷ bs) n h =
     elim (cases_Bool (list_all is_digit (b ∷ bs))) [
       | inl t ↦ t
       | inr f ↦ let none : natural_of most (b ∷ bs) ≡ None = ap (λ t. if t && nat_le (number_of (b ∷ bs)) most then Some (number_of (b ∷ bs)) else None) f in
-        let bad : None ≡ Some n = sym none ∙ h in
-        cc
+          let bad : None ≡ Some n = sym none ∙ h in
+          cc
     ]
 
 no_commas : (most : ℕ) (text : Text) (n : ℕ) → natural_of most text ≡ Some n → All (λ b. is_comma b ≡ false) text
@@ -122,11 +122,11 @@ whole_without_commas [] z h = All-nil (λ b. is_comma b ≡ false)
 whole_without_commas (b ∷ bs) z h =
     elim (cases_Bool (b == 45)) [
       | inl t ↦
-        let n = was_some below_zero (natural_of largest_value bs) z (sym (ap (λ t. if t then option_and_then below_zero (natural_of largest_value bs) else option_map pos (natural_of largest_value (b ∷ bs))) t) ∙ h) in
-        All-cons (λ b. is_comma b ≡ false) b bs (ne_eqb b 44 (λ e. omega (arith, eqb-true b 45 t))) (no_commas largest_value bs n.0 n.1)
+          let n = was_some below_zero (natural_of largest_value bs) z (sym (ap (λ t. if t then option_and_then below_zero (natural_of largest_value bs) else option_map pos (natural_of largest_value (b ∷ bs))) t) ∙ h) in
+          All-cons (λ b. is_comma b ≡ false) b bs (ne_eqb b 44 (λ e. omega (arith, eqb-true b 45 t))) (no_commas largest_value bs n.0 n.1)
       | inr f ↦
-        let n = was_mapped pos (natural_of largest_value (b ∷ bs)) z (sym (ap (λ t. if t then option_and_then below_zero (natural_of largest_value bs) else option_map pos (natural_of largest_value (b ∷ bs))) f) ∙ h) in
-        no_commas largest_value (b ∷ bs) n.0 n.1
+          let n = was_mapped pos (natural_of largest_value (b ∷ bs)) z (sym (ap (λ t. if t then option_and_then below_zero (natural_of largest_value bs) else option_map pos (natural_of largest_value (b ∷ bs))) f) ∙ h) in
+          no_commas largest_value (b ∷ bs) n.0 n.1
     ]
 
 -- a list of one number, and one with another number before it

@@ -40,7 +40,11 @@ fn run(options: &Options<'_>) -> Option<Request>
 }
 
 /// What the command is asked to do, where no option is there that it doesn't use.
-fn request_by(alloc: Global, command: CommandName, options: &Options<'_>) -> Result<Option<Request>, AllocError>
+fn request_by(
+    alloc: Global,
+    command: CommandName,
+    options: &Options<'_>,
+) -> Result<Option<Request>, AllocError>
     ensures { IfOk result (λ request. request ≡ request_by command (written options.now)) }
 {
     Ok(match command {

@@ -15,7 +15,10 @@ fn asked(alloc: Global, words: &[&str]) -> Result<String, AllocError> {
 #[test]
 fn each_command_is_read(rt: HostRuntime) -> Result<(), Fail> {
     let cases = [
-        (["--arrays", "sum", "eval"].as_slice(), "Some(Eval { sums: true })"),
+        (
+            ["--arrays", "sum", "eval"].as_slice(),
+            "Some(Eval { sums: true })",
+        ),
         (["check"].as_slice(), "Some(Check { at: None })"),
         (
             ["show", "--at=-1,02"].as_slice(),
@@ -27,7 +30,10 @@ fn each_command_is_read(rt: HostRuntime) -> Result<(), Fail> {
             "Some(Run { builders: 8, sums: false })",
         ),
         (["replay"].as_slice(), "Some(Replay)"),
-        (["demo", "--number", "7"].as_slice(), "Some(Demo { number: 7 })"),
+        (
+            ["demo", "--number", "7"].as_slice(),
+            "Some(Demo { number: 7 })",
+        ),
         (["demo"].as_slice(), "None"),
         (["check", "--at", "1,"].as_slice(), "None"),
     ];

@@ -17,7 +17,7 @@ pub returns-in_default-command_named : goal.returns-in_default-command_named
 returns-in_default-command_named c =
     let found = found_of c.args.matches.now in
     let word : first_of (codes "command") (rows_of found) ≡ Some c.in-Some.word.now =
-      sym (c.get_str.ensures ∙ first_value-rows found (codes "command")) ∙ ap (option_map (λ s. s.now)) c.in-Some.is in
+    sym (c.get_str.ensures ∙ first_value-rows found (codes "command")) ∙ ap (option_map (λ s. s.now)) c.in-Some.is in
     sym (by_word (rows_of found) c.in-Some.word.now c.command_named.result word c.command_named.ensures
     ∙ ap (option_and_then (request_with (values_in (rows_of found)))) c.in_default-command_named.is)
 
@@ -26,9 +26,9 @@ returns-then-has_unused c =
     let found = found_of c.args.matches.now in
     let rows : List Row = rows_of found in
     let word : first_of (codes "command") rows ≡ Some c.in-Some.word.now =
-      sym (c.get_str.ensures ∙ first_value-rows found (codes "command")) ∙ ap (option_map (λ s. s.now)) c.in-Some.is in
+    sym (c.get_str.ensures ∙ first_value-rows found (codes "command")) ∙ ap (option_map (λ s. s.now)) c.in-Some.is in
     let unused : list_any is_some (unused_by c.in-Some-command_named.command (written c.options_in-options.result)) ≡ true =
-      sym c.has_unused.ensures ∙ c.if-has_unused.true in
+    sym c.has_unused.ensures ∙ c.if-has_unused.true in
     sym (by_word rows c.in-Some.word.now c.command_named.result word c.command_named.ensures
     ∙ (ap (option_and_then (request_with (values_in rows))) c.in-Some-command_named.is
     ∙ with_unused rows (written c.options_in-options.result) c.in-Some-command_named.command c.options_in-options.ensures unused))
@@ -38,10 +38,10 @@ returns c =
     let found = found_of c.args.matches.now in
     let rows : List Row = rows_of found in
     let word : first_of (codes "command") rows ≡ Some c.in-Some.word.now =
-      sym (c.get_str.ensures ∙ first_value-rows found (codes "command")) ∙ ap (option_map (λ s. s.now)) c.in-Some.is in
+    sym (c.get_str.ensures ∙ first_value-rows found (codes "command")) ∙ ap (option_map (λ s. s.now)) c.in-Some.is in
     let unused : list_any is_some (unused_by c.in-Some-command_named.command (written c.options_in-options.result)) ≡ false =
-      sym c.has_unused.ensures ∙ c.if-has_unused.false in
+    sym c.has_unused.ensures ∙ c.if-has_unused.false in
     let decided = by_word rows c.in-Some.word.now c.command_named.result word c.command_named.ensures
-      ∙ (ap (option_and_then (request_with (values_in rows))) c.in-Some-command_named.is
-      ∙ without_unused rows (written c.options_in-options.result) c.in-Some-command_named.command c.options_in-options.ensures unused) in
+    ∙ (ap (option_and_then (request_with (values_in rows))) c.in-Some-command_named.is
+    ∙ without_unused rows (written c.options_in-options.result) c.in-Some-command_named.command c.options_in-options.ensures unused) in
     IfOk-weaker c.request_by.result _ _ (λ r h. h ∙ sym decided) c.request_by.ensures
