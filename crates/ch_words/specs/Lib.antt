@@ -1,0 +1,5 @@
+pub mod CommandLine
+pub mod Numbers
+pub mod Options
+pub mod Requests
+pub mod Usage
