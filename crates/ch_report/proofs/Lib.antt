@@ -1,2 +1,2 @@
 mod Lines
-mod RankLines
+pub mod RankLines

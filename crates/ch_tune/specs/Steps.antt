@@ -1,5 +1,5 @@
 -- One more entry of a search that one thread leads.
-use Rattle.std.specs.Prelude.{◌≡◌, ℕ, ◌<◌, List, [], ◌∷◌, ◌++◌, length}
+use Rattle.std.specs.Prelude.{◌≡◌, ◌<◌, [], ◌∷◌, ◌++◌, length}
 use Rattle.std.specs.List.{All}
 use Rattle.ch_rank.specs.Entries.{Searched, played}
 use Rattle.ch_rank.specs.Search.{point_at}
@@ -18,4 +18,4 @@ pub record Adds (judged : Judged) (old new : Searched) (line : EntryLine) : Type
   pub next : IsNext old.grid old.repeat judged old.entries entry
   pub added : new.entries ≡ old.entries ++ entry ∷ []
   pub told : line ≡ line_of (point_at (played old) entry.trial) judged entry.trial
-  pub judged : AreJudged judged new
+  pub all : AreJudged judged new

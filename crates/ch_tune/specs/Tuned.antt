@@ -1,5 +1,5 @@
 -- A search that one thread leads to its end: the least pending trial is measured, again and again, until no trial is pending.
-use Rattle.std.specs.Prelude.{◌≡◌, ℕ, Option, Some, Result, Ok, Err, List, [], ◌∷◌, ◌++◌, slice_get}
+use Rattle.std.specs.Prelude.{◌≡◌, ℕ, Some, Result, Ok, Err, List, [], ◌∷◌, ◌++◌, slice_get}
 use Rattle.ch_grid.specs.declared.param.Param.{Param}
 use Rattle.ch_rank.specs.Entries.{at_entries, pending, played}
 use Rattle.ch_rank.specs.Search.{point_at}

@@ -2,6 +2,8 @@
 #![tactic(auto)]
 
 mod judge;
+#[cfg(test)]
+mod tests;
 mod tuning;
 
 pub use judge::Judge;

@@ -42,11 +42,14 @@ fn next<J: Judge>(alloc: Global, judge: &J, search: &mut Search) -> Result<Entry
     let found = judge.judge(alloc, point.as_slice())?;
     search.reserve(1)?;
     match search.enter(trial, outcome_of(&found)) {
-        Ok(()) => Ok(EntryLine {
-            trial,
-            point,
-            found,
-        }),
+        Ok(()) => {
+            search.entries_are_legal();
+            Ok(EntryLine {
+                trial,
+                point,
+                found,
+            })
+        }
         Err(_) => unreachable!(),
     }
 }
