@@ -1,0 +1,9 @@
+pub mod Cutting
+pub mod Filling
+pub mod Fitting
+pub mod Limits
+pub mod Pairing
+pub mod Placing
+pub mod Planning
+pub mod Rights
+pub mod Running

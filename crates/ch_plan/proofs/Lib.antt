@@ -1,0 +1,10 @@
+pub mod Keeping
+pub mod Touching
+pub mod Turning
+pub mod Guarding
+pub mod Weighing
+pub mod Forming
+pub mod Striding
+pub mod Spots
+pub mod Levels
+pub mod Metered

@@ -1,0 +1,4 @@
+pub mod Divisor
+pub mod Planned
+pub mod Ready
+pub mod Agreement
