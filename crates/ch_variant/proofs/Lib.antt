@@ -1,0 +1,9 @@
+pub mod GridValues
+pub mod Stepwise
+pub mod Legality
+pub mod CommandSteps
+pub mod Kept
+pub mod Making
+pub mod Known
+pub mod Examples
+pub mod RecipeFacts
