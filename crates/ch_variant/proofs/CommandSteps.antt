@@ -152,3 +152,7 @@ distributes values ss level p r ns l e f t =
     (subst (λ w. T (numbers values ss) (number values level) w) (once p.weight)
     (subst (λ y. T (numbers values ss) y p.weight) f
     (subst (λ xs. T xs l p.weight) e t)))
+
+-- a command that is written out, as an arm of a match tells it
+pub step_at : (values : List ℤ) (c d : Command) (p : Listed) (r : Result Listed ShapeError) → d ≡ c → IsStep values c p r → IsStep values d p r
+step_at values c d p r e s = subst (λ x. IsStep values x p r) (sym e) s

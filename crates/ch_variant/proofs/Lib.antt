@@ -1,5 +1,6 @@
 pub mod GridValues
 pub mod Stepwise
+pub mod Turns
 pub mod Legality
 pub mod CommandSteps
 pub mod Kept

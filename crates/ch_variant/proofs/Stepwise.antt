@@ -1,5 +1,6 @@
 -- The commands of a recipe one after another: what the first so many make of a program, and what one more does.
-use Rattle.std.proofs.Common.{◌≡◌, refl, sym, ap, ◌∙◌, arith, add-one, ℕ, suc, ◌+◌, ◌<◌, ◌≤◌, ℤ, Result, Ok, Err, List, [], ◌∷◌, ◌++◌, length, take, drop, get_or}
+use Rattle.std.proofs.Common.{◌≡◌, refl, sym, subst, ap, ◌∙◌, arith, add-one, ℕ, suc, ◌+◌, ◌<◌, ◌≤◌, ℤ, Result, Ok, Err, List, [], ◌∷◌, ◌++◌, length, take, drop, get_or}
+use Rattle.std.specs.Result.{IsErrAnd}
 use Rattle.std.proofs.Math.Seq.{drop-cons}
 use Rattle.std.proofs.lemmas.List.{length-take-le, take-append-drop, take_all, take_more}
 use Rattle.ch_nest.specs.LoopNest.{LoopNest}
@@ -97,3 +98,9 @@ pair_stops nest values cs p k c (Refused (Illegal n first second cell)) r l e s 
       reached = r.is;
       pair = s.1;
     }
+
+-- ---- the exit of a `?`
+
+pub at_exit : (X : Type 0) (P : Result X ApplyError → Type 0) (r : Result X ApplyError) (e : ApplyError) → IsErrAnd r (λ x. x ≡ e) → P (Err e) → P r
+at_exit X P (Ok x) e h k = absurd h
+at_exit X P (Err x) e h k = subst (λ y. P (Err y)) (sym h) k

@@ -4,7 +4,7 @@ ghost use Rattle.std.specs.Prelude.{◌<◌, ◌^◌, length, IsTrue};
 ghost use Rattle.std.specs.List.{All};
 ghost use Rattle.ch_affine.specs.Affine.{IsAtMost};
 ghost use Rattle.ch_script.specs.Recipes.{command_fits, condition_fits};
-ghost use Rattle.ch_script.specs.declared.recipe.Command.TheVariants.{Distribute, Fuse, Permute, Shift, Skew, Split};
+ghost use Rattle.ch_script.specs.declared.recipe.Command.TheVariants.{Distribute, Fuse, Peel, Permute, Shift, Skew, Split, Unroll};
 ghost use Rattle.ch_script.specs.declared.recipe.Purpose.TheVariants as purposes;
 ghost use Rattle.ch_variant.specs.Commands.{IsStep, reorders};
 
@@ -67,6 +67,38 @@ fn shifted(
     shift(alloc, space, pieces.as_slice(), level, amount)
 }
 
+fn unrolled(
+    alloc: Global,
+    space: &Space,
+    values: &[i64],
+    statement: Arg,
+    level: Arg,
+    amount: Arg,
+) -> Result<Space, ShapeError>
+    requires { space.now.commands < 32 }
+    ensures { IsStep values.now (Unroll statement level amount) space.now result }
+{
+    let piece = number(values, statement);
+    let level = number(values, level);
+    unroll(alloc, space, piece, level, number(values, amount))
+}
+
+fn peeled(
+    alloc: Global,
+    space: &Space,
+    values: &[i64],
+    statement: Arg,
+    level: Arg,
+    count: Arg,
+) -> Result<Space, ShapeError>
+    requires { space.now.commands < 32 }
+    ensures { IsStep values.now (Peel statement level count) space.now result }
+{
+    let piece = number(values, statement);
+    let level = number(values, level);
+    peel(alloc, space, piece, level, number(values, count))
+}
+
 fn split_by(
     alloc: Global,
     space: &Space,
@@ -80,11 +112,12 @@ fn split_by(
     requires small { All (IsAtMost (2 ^ 20)) values.now }
     ensures { IsStep values.now (Split statement level condition.now) space.now result }
 {
-    let Aff { coefs, constant } = condition_of(alloc, condition, values)?;
+    let form = condition_of(alloc, condition, values)?;
+    let Aff { coefs, constant } = form;
     let condition = Condition { coefs, constant };
-    let statement = number(values, statement);
+    let piece = number(values, statement);
     let level = number(values, level);
-    split(alloc, space, statement, level, &condition)
+    split(alloc, space, piece, level, &condition)
 }
 
 fn fused(
@@ -128,7 +161,6 @@ pub(crate) fn changed(
     requires small { All (IsAtMost (2 ^ 20)) values.now }
     ensures { IsStep values.now command.now space.now result }
 {
-    let at = |arg: &Arg| number(values, *arg);
     match command {
         Command::Permute { statement, order } => {
             permuted(alloc, space, values, *statement, order.as_slice())
@@ -151,12 +183,17 @@ pub(crate) fn changed(
             level,
             size,
             outer,
-        } => tile(alloc, space, at(statement), at(level), at(size), at(outer)),
+        } => {
+            let piece = number(values, *statement);
+            let level = number(values, *level);
+            let size = number(values, *size);
+            tile(alloc, space, piece, level, size, number(values, *outer))
+        }
         Command::Unroll {
             statement,
             level,
             amount,
-        } => unroll(alloc, space, at(statement), at(level), at(amount)),
+        } => unrolled(alloc, space, values, *statement, *level, *amount),
         Command::Split {
             statement,
             level,
@@ -166,7 +203,7 @@ pub(crate) fn changed(
             statement,
             level,
             count,
-        } => peel(alloc, space, at(statement), at(level), at(count)),
+        } => peeled(alloc, space, values, *statement, *level, *count),
         Command::Fuse { statements, level } => {
             fused(alloc, space, values, statements.as_slice(), *level)
         }

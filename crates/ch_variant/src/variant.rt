@@ -89,6 +89,6 @@ impl Variant {
             (extents_of self.now.making.nest.arrays ++ self.now.unit.temps) (unit_trace self.now.unit) }
         ensures runs { RunsNest self.now.making.nest (unit_trace self.now.unit) self.now.unit.temps }
     {
-        let _ = self.subject;
+        let _subject = self.subject;
     }
 }

@@ -3,8 +3,8 @@ use Rattle.std.proofs.lemmas.Int.{to_z-of_z}
 use Rattle.ch_variant.proofs.CommandSteps.{shifts}
 use Rattle.ch_variant.proofs.commands.shifted.Goals as goal
 
-pub returns-in_ok-pieces : goal.returns-in_ok-pieces
-returns-in_ok-pieces c =
+pub returns : goal.returns
+returns c =
     let l : SFits w64 c.number-level.result = search rules in
     let a : SFits w64 c.number-amount.result = search rules in
     shifts c.args.values.now c.args.statements.now c.args.level c.args.amount c.args.space.now c.shift.result c.as_slice.result.now c.number-level.result c.number-amount.result
