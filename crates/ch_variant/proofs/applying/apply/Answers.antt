@@ -34,8 +34,8 @@ loop-k-preserved c =
     let same = c.as_slice-command-items.ensures ∙ ap (λ (r : RecipeParts). r.commands) c.recipe.view_is in
     let item = item_of c.as_slice-command-items.result.now c.args.recipe.now.commands c.loop-k.k c.command-item.result same c.loop-k-test.true c.command-item.is in
     let next = one_more c.args.nest.now c.args.values.now c.args.recipe.now.commands c.loop-k.space _ c.loop-k.k c.command-item.result c.in_ok-space-2.ensures.answer item.0 item.1
-        c.loop-k.invariant.reached c.loop-k.invariant.keeps c.loop-k.invariant.arrays c.loop-k.invariant.counted
-        c.in_ok-space-2.ensures.keeps c.in_ok-space-2.ensures.arrays c.in_ok-space-2.ensures.counted in
+    c.loop-k.invariant.reached c.loop-k.invariant.keeps c.loop-k.invariant.arrays c.loop-k.invariant.counted
+    c.in_ok-space-2.ensures.keeps c.in_ok-space-2.ensures.arrays c.in_ok-space-2.ensures.counted in
     record { reached = next.0; keeps = next.1; arrays = next.2; counted = next.3 }
 
 pub returns-in_err-space-2-clause-answer : goal.returns-in_err-space-2-clause-answer

@@ -37,8 +37,9 @@ returns-in-Some-clause-answer c =
 
 pub returns-in-Some-clause-least : goal.returns-in-Some-clause-least
 returns-in-Some-clause-least c =
-    subst (StepIsLeast c.args.values.now c.args.step c.args.command.now c.args.space.now) (sym c.illegal.ensures)
-    (refl,
-    pair_is_least c.args.values.now c.args.command.now c.args.space.now c.in-Ok.new c.in-Some.pair
-    (given_of c.args.values.now c.args.command.now c.args.space.now c.in-Ok.new c.in-Ok.ensures c.known.ensures c.known-2.ensures)
-    (sym c.in_ok-reversed.ensures ∙ c.in-Some.is))
+    subst (StepIsLeast c.args.values.now c.args.step c.args.command.now c.args.space.now) (sym c.illegal.ensures) (
+      refl,
+      pair_is_least c.args.values.now c.args.command.now c.args.space.now c.in-Ok.new c.in-Some.pair
+          (given_of c.args.values.now c.args.command.now c.args.space.now c.in-Ok.new c.in-Ok.ensures c.known.ensures c.known-2.ensures)
+          (sym c.in_ok-reversed.ensures ∙ c.in-Some.is),
+    )
