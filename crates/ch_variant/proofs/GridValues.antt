@@ -7,11 +7,11 @@ use Rattle.std.proofs.Math.Nat.{mul-le-mul_left}
 use Rattle.std.proofs.lemmas.Int.{ints}
 use Rattle.std.proofs.lemmas.Bool.Decides.{nat_tests}
 use Rattle.ch_affine.specs.Affine.{IsAtMost}
+use Rattle.ch_constrain.specs.Nearest.{values}
 use Rattle.ch_grid.specs.Grid.{is_good, is_within, size, sizes, value_at}
 use Rattle.ch_grid.specs.Points.{is_point}
 use Rattle.ch_grid.specs.declared.param.Param.{Param}
 use Rattle.ch_grid.proofs.Sizes.{Within, within_facts}
-use Rattle.ch_variant.specs.Points.{values_at}
 
 pub point_length : (ps : List Param) (xs : List ℕ) → IsTrue (is_point (sizes ps) xs) → length xs ≡ length ps
 point_length [] [] h = refl
@@ -19,7 +19,7 @@ point_length [] (x ∷ xs) h = cc
 point_length (p ∷ ps) [] h = cc
 point_length (p ∷ ps) (x ∷ xs) h = ap suc (point_length ps xs (and_parts _ _ h).1)
 
-pub values_length : (ps : List Param) (xs : List ℕ) → IsTrue (is_point (sizes ps) xs) → length (values_at ps xs) ≡ length ps
+pub values_length : (ps : List Param) (xs : List ℕ) → IsTrue (is_point (sizes ps) xs) → length (values ps xs) ≡ length ps
 values_length [] [] h = refl
 values_length [] (x ∷ xs) h = cc
 values_length (p ∷ ps) [] h = cc
@@ -37,15 +37,15 @@ index_inside (p ∷ ps) (x ∷ xs) (suc k) h l = index_inside ps xs k (and_parts
 
 -- the value of the next parameter
 pub next_value : (ps : List Param) (xs : List ℕ) (k : ℕ) (v : ℤ) → IsTrue (is_point (sizes ps) xs) → k < length xs → IfSome (slice_get ps k) (λ p. v ≡ value_at p (get_or xs k 0))
-    → values_at (drop k ps) (drop k xs) ≡ v ∷ values_at (drop (suc k) ps) (drop (suc k) xs)
+    → values (drop k ps) (drop k xs) ≡ v ∷ values (drop (suc k) ps) (drop (suc k) xs)
 next_value [] [] k v h l e = absurd (omega arith)
 next_value [] (x ∷ xs) k v h l e = cc
 next_value (p ∷ ps) [] k v h l e = cc
-next_value (p ∷ ps) (x ∷ xs) zero v h l e = ap (λ z. z ∷ values_at ps xs) (sym e)
+next_value (p ∷ ps) (x ∷ xs) zero v h l e = ap (λ z. z ∷ values ps xs) (sym e)
 next_value (p ∷ ps) (x ∷ xs) (suc k) v h l e = next_value ps xs k v (and_parts _ _ h).1 (omega arith) e
 
 -- behind the last parameter there is no value
-past_values : (ps : List Param) (xs : List ℕ) (k : ℕ) → IsTrue (is_point (sizes ps) xs) → length xs ≤ k → values_at (drop k ps) (drop k xs) ≡ []
+past_values : (ps : List Param) (xs : List ℕ) (k : ℕ) → IsTrue (is_point (sizes ps) xs) → length xs ≤ k → values (drop k ps) (drop k xs) ≡ []
 past_values [] [] zero h l = refl
 past_values [] [] (suc k) h l = refl
 past_values [] (x ∷ xs) k h l = cc
@@ -54,14 +54,14 @@ past_values (p ∷ ps) (x ∷ xs) zero h l = absurd (omega arith)
 past_values (p ∷ ps) (x ∷ xs) (suc k) h l = past_values ps xs k (and_parts _ _ h).1 (omega arith)
 
 pub all_values : (ps : List Param) (xs : List ℕ) (k : ℕ) (zs : List ℤ) → IsTrue (is_point (sizes ps) xs) → length xs ≤ k
-    → zs ++ values_at (drop k ps) (drop k xs) ≡ values_at ps xs → zs ≡ values_at ps xs
+    → zs ++ values (drop k ps) (drop k xs) ≡ values ps xs → zs ≡ values ps xs
 all_values ps xs k zs h l e = sym (append-nil zs) ∙ ap (λ v. zs ++ v) (sym (past_values ps xs k h l)) ∙ e
 
 pub one_value_more : (ps : List Param) (xs : List ℕ) (k : ℕ) (v : ℤ) (zs : List ℤ) → IsTrue (is_point (sizes ps) xs) → k < length xs
-    → IfSome (slice_get ps k) (λ p. v ≡ value_at p (get_or xs k 0)) → zs ++ values_at (drop k ps) (drop k xs) ≡ values_at ps xs
-    → (zs ++ v ∷ []) ++ values_at (drop (k + 1) ps) (drop (k + 1) xs) ≡ values_at ps xs
+    → IfSome (slice_get ps k) (λ p. v ≡ value_at p (get_or xs k 0)) → zs ++ values (drop k ps) (drop k xs) ≡ values ps xs
+    → (zs ++ v ∷ []) ++ values (drop (k + 1) ps) (drop (k + 1) xs) ≡ values ps xs
 one_value_more ps xs k v zs h l e all =
-    rw (add-one) (append_assoc zs (v ∷ []) (values_at (drop (suc k) ps) (drop (suc k) xs)) ∙ ap (λ z. zs ++ z) (sym (next_value ps xs k v h l e)) ∙ all)
+    rw (add-one) (append_assoc zs (v ∷ []) (values (drop (suc k) ps) (drop (suc k) xs)) ∙ ap (λ z. zs ++ z) (sym (next_value ps xs k v h l e)) ∙ all)
 
 all_more : (P : ℤ → Type 0) (z : ℤ) (zs : List ℤ) → P z → All P zs → All P (z ∷ zs)
 all_more P z zs h g zero d l = h
@@ -101,9 +101,9 @@ value_small p x g l =
     let d = and_parts _ _ c.0 in
     by_steps p.low p.high p.step x (int_at_most p.low p.high d.0) (int_at_most (pos 1) p.step d.1) l (at_most p.low c.1) (at_most p.high b.1)
 
-pub values_small : (ps : List Param) (xs : List ℕ) → list_all is_good ps ≡ true → IsTrue (is_point (sizes ps) xs) → All (IsAtMost (2 ^ 20)) (values_at ps xs)
+pub values_small : (ps : List Param) (xs : List ℕ) → list_all is_good ps ≡ true → IsTrue (is_point (sizes ps) xs) → All (IsAtMost (2 ^ 20)) (values ps xs)
 values_small [] xs g h = λ k d l. absurd (omega arith)
 values_small (p ∷ ps) [] g h = λ k d l. absurd (omega arith)
 values_small (p ∷ ps) (x ∷ xs) g h =
     let here : IsAtMost (2 ^ 20) (value_at p x) = value_small p x (and_parts _ _ g).0 (first_below x (size p) (is_point (sizes ps) xs) h) in
-    all_more (IsAtMost (2 ^ 20)) (value_at p x) (values_at ps xs) here (values_small ps xs (and_parts _ _ g).1 (and_parts _ _ h).1)
+    all_more (IsAtMost (2 ^ 20)) (value_at p x) (values ps xs) here (values_small ps xs (and_parts _ _ g).1 (and_parts _ _ h).1)

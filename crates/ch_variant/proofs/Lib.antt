@@ -1,4 +1,5 @@
 pub mod GridValues
+pub mod Conditions
 pub mod Stepwise
 pub mod Turns
 pub mod Legality

@@ -10,7 +10,7 @@ use Rattle.ch_script.specs.Recipes.{RecipeParts, command_fits, condition_fits, i
 use Rattle.ch_script.specs.declared.recipe.Command.{Command}
 use Rattle.ch_script.specs.declared.recipe.Purpose.TheVariants.{Require}
 
-at_most : (n m : ℕ) → IsTrue (nat_le n m) → n ≤ m
+pub at_most : (n m : ℕ) → IsTrue (nat_le n m) → n ≤ m
 at_most n m h = grind (arith, nat_tests)
 
 -- the parts of what a recipe's type keeps, from each on
@@ -37,6 +37,13 @@ few_commands r h = at_most (length r.commands) 32 (of_commands r h).0
 commands_fit : (r : RecipeParts) → IsTrue (is_recipe r) → IsTrue (list_all (command_fits (length r.params)) r.commands)
 commands_fit r h =
     (and_parts (list_all (condition_fits Require (length r.params)) r.conditions) (list_all (command_fits (length r.params)) r.commands) (of_commands r h).1).1
+
+pub conditions_fit : (r : RecipeParts) → IsTrue (is_recipe r) → IsTrue (list_all (condition_fits Require (length r.params)) r.conditions)
+conditions_fit r h =
+    (and_parts (list_all (condition_fits Require (length r.params)) r.conditions) (list_all (command_fits (length r.params)) r.commands) (of_commands r h).1).0
+
+pub few_params : (r : RecipeParts) → IsTrue (is_recipe r) → length r.params ≤ 6
+few_params r h = at_most (length r.params) 6 (of_params r h).0
 
 -- what holds of each command holds of the one with this number
 pub at_command : (p : Command → Bool) (cs : List Command) (k : ℕ) (c : Command) → IsTrue (list_all p cs) → k < length cs → c ≡ get_or cs k c → IsTrue (p c)

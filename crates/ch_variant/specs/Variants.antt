@@ -13,7 +13,7 @@ use Rattle.ch_timed.specs.Timed.{is_well_formed}
 use Rattle.ch_timed.specs.declared.element.Element.{Element}
 use Rattle.ch_variant.specs.Applied.{applied, plain}
 use Rattle.ch_variant.specs.Meaning.{KeepsNest}
-use Rattle.ch_variant.specs.Points.{values_at}
+use Rattle.ch_variant.specs.Points.{used_values}
 use Rattle.ch_variant.specs.declared.error.ApplyError.{ApplyError}
 use Rattle.ch_variant.specs.declared.error.ApplyError.TheVariants.{Refused, Memory}
 
@@ -21,9 +21,9 @@ use Rattle.ch_variant.specs.declared.error.ApplyError.TheVariants.{Refused, Memo
 abbrev pub origin_at : RecipeParts → List Param → List ℕ → Origin
 origin_at recipe grid point = record { recipe = recipe; grid = grid; point = point }
 
--- what a recipe makes of a nest there
+-- what a recipe makes of a nest there: at the values of the nearest point that meets the conditions of the recipe
 abbrev pub applied_at : LoopNest → Origin → Result Listed Refusal
-applied_at nest o = applied nest o.recipe.commands (values_at o.grid o.point)
+applied_at nest o = applied nest o.recipe.commands (used_values o.recipe o.grid o.point)
 
 -- the nest itself has no point
 abbrev pub point_of : Option Origin → List ℕ

@@ -1,6 +1,6 @@
 //! Variants built by a recipe, and the original.
 
-ghost use Rattle.std.specs.Prelude.{◌≡◌, [], Some, None, length, IfOk, IsTrue};
+ghost use Rattle.std.specs.Prelude.{◌≡◌, Some, None, length, IfOk, IsTrue};
 ghost use Rattle.std.specs.List.{list_all};
 ghost use Rattle.ch_grid.specs.Grid.{sizes};
 ghost use Rattle.ch_grid.specs.Points.{is_point};
@@ -9,14 +9,14 @@ ghost use Rattle.ch_timed.specs.Timed.{is_well_formed};
 ghost use Rattle.ch_variant.specs.Applied.{IsAnswer};
 ghost use Rattle.ch_variant.specs.Commands.{reorders};
 ghost use Rattle.ch_variant.specs.Meaning.{KeepsNest};
-ghost use Rattle.ch_variant.specs.Points.{values_at};
+ghost use Rattle.ch_variant.specs.Points.{used_values};
 ghost use Rattle.ch_variant.specs.Refusals.{PairIsLeast};
 ghost use Rattle.ch_variant.specs.Sources.{origin_of};
 ghost use Rattle.ch_variant.specs.Variants.{Refuses, applied_at, origin_at};
 
 use crate::applying::apply;
 use crate::error::ApplyError;
-use crate::point::values_at;
+use crate::point::{used_point, values_at};
 use crate::variant::{Source, Variant};
 use ch_affine::List;
 use ch_codegen::generate;
@@ -28,7 +28,7 @@ use ch_timed::Timed;
 use std::alloc::{AllocError, Global};
 use std::snapshot::Snapshot;
 
-/// The program that a recipe makes of a nest at a point of a grid.
+/// The program that a recipe makes of a nest at the point that is used for a point of a grid.
 fn space_at(
     alloc: Global,
     nest: &Nest,
@@ -43,12 +43,13 @@ fn space_at(
     ensures answer { IsAnswer result
         (applied_at nest.now (origin_at recipe.now grid.now.params point.now)) }
     ensures least { PairIsLeast nest.now recipe.now.commands
-        (values_at grid.now.params point.now) result }
+        (used_values recipe.now grid.now.params point.now) result }
     ensures arrays { IfOk result (λ space. space.arrays ≡ length nest.now.arrays) }
     ensures well_formed { IfOk result (λ space. IsTrue (is_well_formed space.list)) }
     ensures keeps { IfOk result (λ space. KeepsNest nest.now space.list space.temps) }
 {
-    let values = values_at(alloc, grid, point)?;
+    let used = used_point(alloc, recipe, grid, point)?;
+    let values = values_at(alloc, grid, used.as_slice())?;
     apply(alloc, nest, recipe, values.as_slice())
 }
 
@@ -68,8 +69,9 @@ fn source_at(
     })
 }
 
-/// The variant of a sound nest under a recipe, at the values of a point of the grid. It is refused
-/// exactly where the recipe is at these values.
+/// The variant of a sound nest under a recipe, for a point of a grid: at the values of the nearest
+/// point that meets the recipe's conditions (`used_point`). It is refused exactly where the recipe
+/// is at these values.
 ///
 /// The grid has a parameter for each of the recipe, and the point is one of the grid.
 pub fn build(
@@ -84,11 +86,10 @@ pub fn build(
     requires params { length grid.now.params ≡ length recipe.now.params }
     requires point { IsTrue (is_point (sizes grid.now.params) point.now) }
     requires reorders { IsTrue (list_all reorders recipe.now.commands) }
-    requires conditions { recipe.now.conditions ≡ [] }
     ensures answer { Refuses result
         (applied_at nest.now (origin_at recipe.now grid.now.params point.now)) }
     ensures least { PairIsLeast nest.now recipe.now.commands
-        (values_at grid.now.params point.now) result }
+        (used_values recipe.now grid.now.params point.now) result }
     ensures made { IfOk result (λ variant. variant.making ≡ record {
       subject = subject;
       nest = nest.now;

@@ -1,6 +1,6 @@
 use Rattle.std.proofs.Common.{◌≡◌}
 use Rattle.ch_space.specs.Listed.{Listed}
-use Rattle.ch_variant.specs.Points.{values_at}
+use Rattle.ch_variant.specs.Points.{used_values}
 use Rattle.ch_variant.specs.Refusals.{PairIsLeast}
 use Rattle.ch_variant.specs.Variants.{Refuses, VariantParts, applied_at, origin_at}
 use Rattle.ch_variant.proofs.Making.{built, goes_on, least_too, made_is, refuses_too}
@@ -20,8 +20,8 @@ returns-in_err-space-clause-answer c =
 
 pub returns-in_err-space-clause-least : goal.returns-in_err-space-clause-least
 returns-in_err-space-clause-least c =
-    at_exit VariantParts (PairIsLeast c.args.nest.now c.args.recipe.now.commands (values_at c.args.grid.now.params c.args.point.now) {X = VariantParts}) c.from_residual.result c.in_err-space.field-0.0 c.from_residual.ensures.1
-    (least_too Listed VariantParts c.args.nest.now c.args.recipe.now.commands (values_at c.args.grid.now.params c.args.point.now) c.in_err-space.field-0.0 c.in_err-space.ensures.least)
+    at_exit VariantParts (PairIsLeast c.args.nest.now c.args.recipe.now.commands (used_values c.args.recipe.now c.args.grid.now.params c.args.point.now) {X = VariantParts}) c.from_residual.result c.in_err-space.field-0.0 c.from_residual.ensures.1
+    (least_too Listed VariantParts c.args.nest.now c.args.recipe.now.commands (used_values c.args.recipe.now c.args.grid.now.params c.args.point.now) c.in_err-space.field-0.0 c.in_err-space.ensures.least)
 
 pub returns-clause-answer : goal.returns-clause-answer
 returns-clause-answer c =
