@@ -1,6 +1,6 @@
 //! What a recipe makes of a nest: as it is judged, and as a variant of it is built.
 
-ghost use Rattle.std.specs.Prelude.{◌≡◌, ◌≤◌, ◌^◌, [], length, IfOk, IfSome, IsTrue};
+ghost use Rattle.std.specs.Prelude.{◌≡◌, ◌^◌, length, IsTrue};
 ghost use Rattle.std.specs.List.{All, list_all};
 ghost use Rattle.ch_affine.specs.Affine.{IsAtMost};
 ghost use Rattle.ch_grid.specs.Grid.{sizes};
@@ -10,13 +10,15 @@ ghost use Rattle.ch_variant.specs.Commands.{reorders};
 
 use crate::grids::{grid_around, is_in, middle};
 use crate::recipes::are_small;
-use crate::texts::{legal_text, refusal_text};
+use crate::texts::{legal_text, put_values, refusal_text};
 use ch_affine::Text;
 use ch_code::code_text;
 use ch_grid::Grid;
 use ch_nest::Nest;
 use ch_script::Recipe;
-use ch_variant::{ApplyError, Variant, apply, build, judge, only_reorders, original};
+use ch_variant::{
+    ApplyError, Variant, apply, build, judge, only_reorders, original, used_point, values_at,
+};
 use std::alloc::{AllocError, Global};
 
 /// A recipe to be applied to a nest at these values.
@@ -60,17 +62,17 @@ fn refused(alloc: Global, nest: &Nest, error: ApplyError) -> Result<Text, ApplyE
     }
 }
 
-/// How the recipe is judged, after it was applied so many times.
-fn judged(alloc: Global, wanted: &Wanted<'_>) -> Result<Text, ApplyError>
+/// How the recipe is judged at these values, after it was applied so many times.
+fn judged(alloc: Global, wanted: &Wanted<'_>, values: &[i64]) -> Result<Text, ApplyError>
     requires sound { IsTrue (is_sound wanted.now.nest.now) }
-    requires params { length wanted.now.values.now ≡ length wanted.now.recipe.now.params }
-    requires small { All (IsAtMost (2 ^ 20)) wanted.now.values.now }
+    requires params { length values.now ≡ length wanted.now.recipe.now.params }
+    requires small { All (IsAtMost (2 ^ 20)) values.now }
     requires reorders { IsTrue (list_all reorders wanted.now.recipe.now.commands) }
 {
     for _ in 1..wanted.repeats {
-        let _answer = apply(alloc, wanted.nest, wanted.recipe, wanted.values);
+        let _answer = apply(alloc, wanted.nest, wanted.recipe, values);
     }
-    match judge(alloc, wanted.nest, wanted.recipe, wanted.values) {
+    match judge(alloc, wanted.nest, wanted.recipe, values) {
         Ok(judgement) => Ok(legal_text(alloc, judgement)?),
         Err(error) => refused(alloc, wanted.nest, error),
     }
@@ -81,7 +83,8 @@ fn tells(variant: &Variant, point: &[u32]) -> bool {
     variant.subject() == SUBJECT && variant.point() == point
 }
 
-/// The judgement, with the code behind it where that is wanted, once a variant was built at this point.
+/// What a build at this point says, where the recipe is judged so at the values that it uses: that
+/// judgement, with the code behind it where that is wanted.
 fn built(
     alloc: Global,
     wanted: &Wanted<'_>,
@@ -93,7 +96,6 @@ fn built(
     requires params { length grid.now.params ≡ length wanted.now.recipe.now.params }
     requires point { IsTrue (is_point (sizes grid.now.params) point.now) }
     requires reorders { IsTrue (list_all reorders wanted.now.recipe.now.commands) }
-    requires conditions { wanted.now.recipe.now.conditions ≡ [] }
 {
     let variant = match build(alloc, SUBJECT, wanted.nest, wanted.recipe, grid, point) {
         Ok(variant) => variant,
@@ -117,6 +119,37 @@ fn built(
     Ok(out)
 }
 
+/// What is said of a recipe at a point of a grid: the judgement at the point's values, and also the
+/// one at the values that a build uses, where these are others.
+fn told_at(
+    alloc: Global,
+    wanted: &Wanted<'_>,
+    grid: &Grid,
+    point: &[u32],
+) -> Result<Text, ApplyError>
+    requires sound { IsTrue (is_sound wanted.now.nest.now) }
+    requires params { length grid.now.params ≡ length wanted.now.recipe.now.params }
+    requires values { length wanted.now.values.now ≡ length wanted.now.recipe.now.params }
+    requires small { All (IsAtMost (2 ^ 20)) wanted.now.values.now }
+    requires point { IsTrue (is_point (sizes grid.now.params) point.now) }
+    requires reorders { IsTrue (list_all reorders wanted.now.recipe.now.commands) }
+{
+    let judgement = judged(alloc, wanted, wanted.values)?;
+    let used = used_point(alloc, wanted.recipe, grid, point)?;
+    if used.as_slice() == point {
+        return built(alloc, wanted, grid, point, judgement);
+    }
+    let values = values_at(alloc, grid, used.as_slice())?;
+    let elsewhere = judged(alloc, wanted, values.as_slice())?;
+    let elsewhere = built(alloc, wanted, grid, point, elsewhere)?;
+    let mut out = judgement;
+    out.append(b" used ")?;
+    put_values(&mut out, values.as_slice())?;
+    out.append(b": ")?;
+    out.append(elsewhere.as_bytes())?;
+    Ok(out)
+}
+
 /// What is said of a recipe that only reorders, at fitting values.
 fn told(alloc: Global, wanted: &Wanted<'_>) -> Result<Text, ApplyError>
     requires sound { IsTrue (is_sound wanted.now.nest.now) }
@@ -124,18 +157,15 @@ fn told(alloc: Global, wanted: &Wanted<'_>) -> Result<Text, ApplyError>
     requires small { All (IsAtMost (2 ^ 20)) wanted.now.values.now }
     requires reorders { IsTrue (list_all reorders wanted.now.recipe.now.commands) }
 {
-    let judgement = judged(alloc, wanted)?;
-    if !wanted.recipe.conditions.is_empty() {
-        return Ok(judgement);
-    }
     let Some(grid) = grid_around(alloc, wanted.values)? else {
-        return Ok(judgement);
+        return judged(alloc, wanted, wanted.values);
     };
     let point = middle(alloc, wanted.values.len())?;
-    if grid.params.len() != wanted.recipe.params.len() || !is_in(&grid, point.as_slice()) {
+    let recipe = wanted.recipe;
+    if grid.params.len() != recipe.params.len() || !is_in(&grid, point.as_slice()) {
         return Ok(sentence(alloc, b"no point of the grid")?);
     }
-    built(alloc, wanted, &grid, point.as_slice(), judgement)
+    told_at(alloc, wanted, &grid, point.as_slice())
 }
 
 /// What is said of a recipe.
@@ -145,7 +175,8 @@ pub(crate) fn answer_of(alloc: Global, wanted: &Wanted<'_>) -> Result<Text, Appl
     if !only_reorders(wanted.recipe) {
         return Ok(sentence(alloc, b"not only reorders")?);
     }
-    if wanted.values.len() != wanted.recipe.params.len() || !are_small(wanted.values) {
+    let recipe = wanted.recipe;
+    if wanted.values.len() != recipe.params.len() || !are_small(wanted.values) {
         return Ok(sentence(alloc, b"the values don't fit")?);
     }
     told(alloc, wanted)

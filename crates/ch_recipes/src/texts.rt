@@ -76,3 +76,14 @@ pub(crate) fn legal_text(alloc: Global, judgement: Judgement) -> Result<Text, Al
     put_number(&mut out, judgement.instances)?;
     Ok(out)
 }
+
+/// Numbers with commas between them.
+pub(crate) fn put_values(out: &mut Text, values: &[i64]) -> Result<(), AllocError> {
+    for (k, value) in values.iter().enumerate() {
+        if k > 0 {
+            out.append(b",")?;
+        }
+        put_wide(out, i128::from(*value))?;
+    }
+    Ok(())
+}
