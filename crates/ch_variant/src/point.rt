@@ -41,9 +41,10 @@ fn requirements(alloc: Global, recipe: &Recipe) -> Result<List<Aff>, AllocError>
     Ok(rows)
 }
 
-/// The point at which a recipe is built for a point of a grid: the nearest one at whose values each condition of the recipe holds,
-/// by the sum of the magnitudes of the index differences, and at a tie the lexicographically least. It is the point itself where
-/// the conditions hold there, and also where they hold at no point of the grid.
+/// The point at which a recipe is built for a point of a grid: the nearest one at whose values each
+/// condition of the recipe holds, by the sum of the magnitudes of the index differences, and at a
+/// tie the lexicographically least. It is the point itself where the conditions hold there, and
+/// also where they hold at no point of the grid.
 pub fn used_point(
     alloc: Global,
     recipe: &Recipe,
