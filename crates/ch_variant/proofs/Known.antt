@@ -1,0 +1,46 @@
+-- The reversed pair of lists whose bodies have known reads: it can then be computed.
+use Rattle.std.proofs.Common.{◌≡◌, refl, sym, ap, ◌∙◌, Bool, Option, Some, None, List, [], ◌∷◌, ◌++◌, map, ◌⊎◌, inl, inr}
+use Rattle.ch_nest.specs.declared.nest.Access.{Access}
+use Rattle.ch_nest.specs.declared.nest.Body.{Body}
+use Rattle.ch_timed.specs.Conflict.{cell_of, cells_of, clash, conflict, reads, reversed, written}
+use Rattle.ch_timed.specs.Members.{Each, In}
+use Rattle.ch_timed.specs.Order as order
+use Rattle.ch_timed.specs.Order.{is_before, or_else, overtaken, overtakes}
+use Rattle.ch_timed.specs.Timed.{Step, same_step, step}
+use Rattle.ch_timed.specs.declared.element.Cell.{Cell}
+use Rattle.ch_timed.specs.declared.element.Element.{Element}
+
+-- the cells of a step that reads by these accesses
+abbrev pub known_cells : List Access → Step → List Cell
+known_cells rs s = map (cell_of s.identity.iters) rs ++ written s ∷ []
+
+abbrev pub known_conflict : List Access → Step → Step → Option Cell
+known_conflict rs a b = clash (known_cells rs a) (known_cells rs b) (known_cells rs a)
+
+-- it does so
+abbrev pub Reads : List Access → Step → Type 0
+Reads rs s = reads s.body.right ≡ rs
+
+known : (rs : List Access) (a b : Step) → Reads rs a → Reads rs b → conflict a b ≡ known_conflict rs a b
+known rs a b f g =
+    let ours : cells_of a ≡ known_cells rs a = ap (λ xs. map (cell_of a.identity.iters) xs ++ written a ∷ []) f in
+    let theirs : cells_of b ≡ known_cells rs b = ap (λ xs. map (cell_of b.identity.iters) xs ++ written b ∷ []) g in
+    ap (λ cs. clash cs (cells_of b) cs) ours ∙ ap (λ cs. clash (known_cells rs a) cs (known_cells rs a)) theirs
+
+overtakes_known : (rs : List Access) (a : Step) (later new : List Step) → Reads rs a → Each (Reads rs) later
+    → overtakes same_step conflict a later new ≡ overtakes same_step (known_conflict rs) a later new
+overtakes_known rs a [] new f g = refl
+overtakes_known rs a (b ∷ later) new f g =
+    ap (λ c. or_else (overtaken (is_before same_step b a new) a b c) (overtakes same_step conflict a later new)) (known rs a b f g.0)
+    ∙ ap (or_else (overtaken (is_before same_step b a new) a b (known_conflict rs a b))) (overtakes_known rs a later new f g.1)
+
+steps_known : (rs : List Access) (old new : List Step) → Each (Reads rs) old
+    → order.reversed same_step conflict old new ≡ order.reversed same_step (known_conflict rs) old new
+steps_known rs [] new g = refl
+steps_known rs (a ∷ later) new g =
+    ap (λ o. or_else o (order.reversed same_step conflict later new)) (overtakes_known rs a later new g.0 g.1)
+    ∙ ap (or_else (overtakes same_step (known_conflict rs) a later new)) (steps_known rs later new g.1)
+
+pub reversed_known : (rs : List Access) (old new : List Element) → Each (Reads rs) (map step old)
+    → reversed old new ≡ order.reversed same_step (known_conflict rs) (map step old) (map step new)
+reversed_known rs old new g = steps_known rs (map step old) (map step new) g

@@ -1,0 +1,11 @@
+pub mod GridValues
+pub mod Conditions
+pub mod Stepwise
+pub mod Turns
+pub mod Legality
+pub mod CommandSteps
+pub mod Kept
+pub mod Making
+pub mod Known
+pub mod Examples
+pub mod RecipeFacts

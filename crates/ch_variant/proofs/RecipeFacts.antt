@@ -1,0 +1,64 @@
+-- What the type of a recipe tells of its commands.
+use Rattle.std.proofs.Common.{◌≡◌, ◌∙◌, ap, sym, arith, true, ℕ, zero, suc, ◌<◌, ◌≤◌, Bool, ◌&&◌, List, [], ◌∷◌, length, get_or, subst}
+use Rattle.std.specs.Prelude.{nat_le}
+use Rattle.std.specs.Bool.{IsTrue}
+use Rattle.std.specs.List.{list_all}
+use Rattle.std.proofs.lemmas.Bool.{and_parts}
+use Rattle.std.proofs.lemmas.Bool.Decides.{nat_tests}
+use Rattle.ch_script.specs.Limits.{most_commands, most_conditions, most_params}
+use Rattle.ch_script.specs.Recipes.{RecipeParts, command_fits, condition_fits, is_recipe}
+use Rattle.ch_script.specs.declared.recipe.Command.{Command}
+use Rattle.ch_script.specs.declared.recipe.Purpose.TheVariants.{Require}
+
+pub at_most : (n m : ℕ) → IsTrue (nat_le n m) → n ≤ m
+at_most n m h = grind (arith, nat_tests)
+
+-- the parts of what a recipe's type keeps, from each on
+abbrev all_fit : RecipeParts → Bool
+all_fit r = list_all (condition_fits Require (length r.params)) r.conditions && list_all (command_fits (length r.params)) r.commands
+
+abbrev few_and_fit : RecipeParts → Bool
+few_and_fit r = nat_le (length r.commands) most_commands && all_fit r
+
+abbrev behind_params : RecipeParts → Bool
+behind_params r = nat_le (length r.conditions) most_conditions && few_and_fit r
+
+of_params : (r : RecipeParts) → IsTrue (is_recipe r) → IsTrue (nat_le (length r.params) most_params) × IsTrue (behind_params r)
+of_params r h = and_parts (nat_le (length r.params) most_params) (behind_params r) h
+
+of_commands : (r : RecipeParts) → IsTrue (is_recipe r) → IsTrue (nat_le (length r.commands) most_commands) × IsTrue (all_fit r)
+of_commands r h =
+    and_parts (nat_le (length r.commands) most_commands) (all_fit r)
+    (and_parts (nat_le (length r.conditions) most_conditions) (few_and_fit r) (of_params r h).1).1
+
+pub few_commands : (r : RecipeParts) → IsTrue (is_recipe r) → length r.commands ≤ 32
+few_commands r h = at_most (length r.commands) 32 (of_commands r h).0
+
+commands_fit : (r : RecipeParts) → IsTrue (is_recipe r) → IsTrue (list_all (command_fits (length r.params)) r.commands)
+commands_fit r h =
+    (and_parts (list_all (condition_fits Require (length r.params)) r.conditions) (list_all (command_fits (length r.params)) r.commands) (of_commands r h).1).1
+
+pub conditions_fit : (r : RecipeParts) → IsTrue (is_recipe r) → IsTrue (list_all (condition_fits Require (length r.params)) r.conditions)
+conditions_fit r h =
+    (and_parts (list_all (condition_fits Require (length r.params)) r.conditions) (list_all (command_fits (length r.params)) r.commands) (of_commands r h).1).0
+
+pub few_params : (r : RecipeParts) → IsTrue (is_recipe r) → length r.params ≤ 6
+few_params r h = at_most (length r.params) 6 (of_params r h).0
+
+-- what holds of each command holds of the one with this number
+pub at_command : (p : Command → Bool) (cs : List Command) (k : ℕ) (c : Command) → IsTrue (list_all p cs) → k < length cs → c ≡ get_or cs k c → IsTrue (p c)
+at_command p [] k c h l e = absurd (omega arith)
+at_command p (d ∷ ds) zero c h l e = subst (λ x. IsTrue (p x)) (sym e) (and_parts (p d) (list_all p ds) h).0
+at_command p (d ∷ ds) (suc k) c h l e = at_command p ds k c (and_parts (p d) (list_all p ds) h).1 (omega arith) e
+
+pub command_at_fits : (r : RecipeParts) (n k : ℕ) (c : Command) → n ≡ length r.params → IsTrue (is_recipe r) → k < length r.commands → c ≡ get_or r.commands k c
+    → IsTrue (command_fits n c)
+command_at_fits r n k c e h l f =
+    subst (λ m. IsTrue (command_fits m c)) (sym e) (at_command (command_fits (length r.params)) r.commands k c (commands_fit r h) l f)
+
+-- the next command, where a slice has the commands
+pub item_of : (items cs : List Command) (k : ℕ) (c : Command) → items ≡ cs → k < length items → c ≡ get_or items k c → (k < length cs) × (c ≡ get_or cs k c)
+item_of items cs k c e l i = subst (λ xs. (k < length xs) × (c ≡ get_or xs k c)) e (l, i)
+
+pub all_done : (items cs : List Command) (k : ℕ) → items ≡ cs → length items ≤ k → length cs ≤ k
+all_done items cs k e l = subst (λ xs. length xs ≤ k) e l

@@ -1,0 +1,9 @@
+pub mod Arguments
+pub mod Commands
+pub mod Applied
+pub mod Meaning
+pub mod Refusals
+pub mod Points
+pub mod Variants
+pub mod Sources
+pub mod Judgements

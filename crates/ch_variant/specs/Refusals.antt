@@ -1,0 +1,50 @@
+-- What a refusal for a reversed pair says of the program before the refused command and after it.
+use Rattle.std.specs.Prelude.{◌≡◌, ℕ, ◌+◌, ℤ, Option, None, Result, Ok, Err, List, ◌∷◌, ◌++◌, length}
+use Rattle.ch_nest.specs.LoopNest.{LoopNest}
+use Rattle.ch_order.specs.Reversed.{IsLeastReversed}
+use Rattle.ch_script.specs.declared.recipe.Command.{Command}
+use Rattle.ch_script.specs.declared.refusal.Refusal.{Refusal}
+use Rattle.ch_script.specs.declared.refusal.Refusal.TheVariants.{Illegal, Shape}
+use Rattle.ch_space.specs.Listed.{Listed}
+use Rattle.ch_timed.specs.declared.element.Cell.{Cell}
+use Rattle.ch_timed.specs.declared.element.Element.{Element}
+use Rattle.ch_timed.specs.declared.element.Identity.{Identity}
+use Rattle.ch_variant.specs.Applied.{applied}
+use Rattle.ch_variant.specs.Commands.{cause, changed}
+use Rattle.ch_variant.specs.declared.error.ApplyError.{ApplyError}
+use Rattle.ch_variant.specs.declared.error.ApplyError.TheVariants.{Refused, Memory}
+
+-- A command reverses the pair of these identities on this cell, and no lesser pair; its shape forbids nothing.
+pub record IsLeastPair (values : List ℤ) (c : Command) (p : Listed) (first second : Identity) (cell : Cell) : Type 0 where
+  pub shape : cause values c p ≡ None
+  pub before : Element
+  pub behind : Element
+  pub first_is : first ≡ before.identity
+  pub second_is : second ≡ behind.identity
+  pub least : IsLeastReversed p.list (changed values c p.list) before behind cell
+
+-- of what a call answers to one command
+abbrev pub StepIsLeast : List ℤ → ℕ → Command → Listed → ApplyError → Type 0
+StepIsLeast values step c p Memory = Unit {0}
+StepIsLeast values step c p (Refused (Shape k forbidden)) = Unit {0}
+StepIsLeast values step c p (Refused (Illegal k first second cell)) =
+    (k ≡ step) × IsLeastPair values c p first second cell
+
+-- It is the command of this number that does so, to what the commands before it make of the nest.
+pub record IsIllegal (nest : LoopNest) (commands : List Command) (values : List ℤ) (step : ℕ) (first second : Identity) (cell : Cell) : Type 0 where
+  pub earlier : List Command
+  pub command : Command
+  pub later : List Command
+  pub stands : commands ≡ earlier ++ command ∷ later
+  pub number : step ≡ length earlier + 1
+  pub program : Listed
+  pub reached : applied nest earlier values ≡ Ok program
+  pub pair : IsLeastPair values command program first second cell
+
+-- of a call's answer
+abbrev pub PairIsLeast : LoopNest → List Command → List ℤ → {X : Type 0} → Result X ApplyError → Type 0
+PairIsLeast nest commands values (Ok x) = Unit {0}
+PairIsLeast nest commands values (Err Memory) = Unit {0}
+PairIsLeast nest commands values (Err (Refused (Shape step c))) = Unit {0}
+PairIsLeast nest commands values (Err (Refused (Illegal step first second cell))) =
+    IsIllegal nest commands values step first second cell

@@ -1,0 +1,140 @@
+//! A recipe applied to a nest, command by command.
+
+ghost use Rattle.std.specs.Prelude.{◌≡◌, ◌+◌, ◌<◌, ◌≤◌, ◌^◌, length, IfErr, IfOk, IsTrue};
+ghost use Rattle.std.specs.List.{All, list_all};
+ghost use Rattle.ch_affine.specs.Affine.{IsAtMost};
+ghost use Rattle.ch_nest.specs.Sound.{is_sound};
+ghost use Rattle.ch_script.specs.Recipes.{command_fits};
+ghost use Rattle.ch_script.specs.declared.refusal.Refusal.TheVariants.{Illegal};
+ghost use Rattle.ch_timed.specs.Timed.{is_well_formed};
+ghost use Rattle.ch_variant.specs.Applied.{IsAnswer, applied, forbidden_at, one};
+ghost use Rattle.ch_variant.specs.Commands.{reorders};
+ghost use Rattle.ch_variant.specs.Meaning.{Keeps, KeepsNest, RunsNest};
+ghost use Rattle.ch_variant.specs.Refusals.{PairIsLeast, StepIsLeast};
+ghost use Rattle.ch_variant.specs.declared.error.ApplyError.TheVariants.{Refused};
+
+use crate::commands::changed;
+use crate::error::ApplyError;
+use ch_depends::{Pair, reversed};
+use ch_nest::Nest;
+use ch_script::{Command, Recipe, Refusal};
+use ch_space::{ShapeError, Space, space_of};
+use ch_timed::Timed;
+use std::alloc::Global;
+
+/// Whether each command of a recipe gives the statement instances another order, and does nothing
+/// else. Copies into buffers don't, nor does the leave to reorder sums.
+pub fn only_reorders(recipe: &Recipe) -> bool
+    ensures { result ≡ list_all reorders recipe.now.commands }
+{
+    recipe.commands.as_slice().iter().all(reorders)
+}
+
+fn reorders(command: &Command) -> bool
+    ensures { result ≡ reorders command.now }
+{
+    match command {
+        Command::Permute { .. }
+        | Command::Skew { .. }
+        | Command::Shift { .. }
+        | Command::Tile { .. }
+        | Command::Unroll { .. }
+        | Command::Split { .. }
+        | Command::Peel { .. }
+        | Command::Fuse { .. }
+        | Command::Distribute { .. } => true,
+        Command::Datacopy { .. } | Command::Accumulate => false,
+    }
+}
+
+/// The refusal of the command of this number by the shape of the program.
+fn forbidden(step: u32, error: ShapeError) -> ApplyError
+    ensures { result ≡ forbidden_at step error }
+{
+    match error {
+        ShapeError::Shape(cause) => ApplyError::Refused(Refusal::Shape { step, cause }),
+        ShapeError::Memory => ApplyError::Memory,
+    }
+}
+
+/// The refusal of the command of this number, which reverses a pair.
+fn illegal(step: u32, pair: Pair) -> ApplyError
+    ensures { result ≡ Refused (Illegal step pair.first pair.second pair.cell) }
+{
+    let Pair {
+        first,
+        second,
+        cell,
+    } = pair;
+    ApplyError::Refused(Refusal::Illegal {
+        step,
+        first,
+        second,
+        cell,
+    })
+}
+
+/// The program after the command of this number: its shape may forbid the command, or the least
+/// pair of statement instances that it would reverse does.
+fn one(
+    alloc: Global,
+    space: &Space,
+    values: &[i64],
+    step: u32,
+    command: &Command,
+) -> Result<Space, ApplyError>
+    requires few { space.now.commands < 32 }
+    requires reorders { IsTrue (reorders command.now) }
+    requires fits { IsTrue (command_fits (length values.now) command.now) }
+    requires small { All (IsAtMost (2 ^ 20)) values.now }
+    ensures answer { IsAnswer result (one values.now step command.now space.now) }
+    ensures keeps { IfOk result (λ new. Keeps space.now new) }
+    ensures arrays { IfOk result (λ new. new.arrays ≡ space.now.arrays) }
+    ensures counted { IfOk result (λ new. new.commands ≡ space.now.commands + 1) }
+    ensures least { IfErr result (StepIsLeast values.now step command.now space.now) }
+{
+    let new = match changed(alloc, space, values, command) {
+        Ok(new) => new,
+        Err(error) => return Err(forbidden(step, error)),
+    };
+    space.known();
+    new.known();
+    match reversed(alloc, space, &new)? {
+        None => Ok(new),
+        Some(pair) => Err(illegal(step, pair)),
+    }
+}
+
+/// What a recipe makes of a sound nest, at these values of its parameters: the commands one after
+/// another, each judged on the program that those before it left. A command is refused by the first
+/// cause that the shape of that program gives, or else by the least pair of conflicting statement
+/// instances, in the order before the command, that it would execute the other way round: such an
+/// order would break a dependence (Wolf and Lam; Feautrier).
+///
+/// There is one value, of magnitude at most 2^20, for each parameter. The conditions between the
+/// parameters aren't looked at.
+pub fn apply(
+    alloc: Global,
+    nest: &Nest,
+    recipe: &Recipe,
+    values: &[i64],
+) -> Result<Space, ApplyError>
+    requires sound { IsTrue (is_sound nest.now) }
+    requires params { length values.now ≡ length recipe.now.params }
+    requires small { All (IsAtMost (2 ^ 20)) values.now }
+    requires reorders { IsTrue (list_all reorders recipe.now.commands) }
+    ensures answer { IsAnswer result (applied nest.now recipe.now.commands values.now) }
+    ensures least { PairIsLeast nest.now recipe.now.commands values.now result }
+    ensures arrays { IfOk result (λ space. space.arrays ≡ length nest.now.arrays) }
+    ensures well_formed { IfOk result (λ space. IsTrue (is_well_formed space.list)) }
+    ensures keeps { IfOk result (λ space. KeepsNest nest.now space.list space.temps) }
+    ensures runs { IfOk result (λ space. RunsNest nest.now space.list space.temps) }
+{
+    recipe.known();
+    let mut space = space_of(alloc, nest)?;
+    for (k, command) in recipe.commands.as_slice().iter().enumerate() {
+        space = one(alloc, &space, values, k as u32 + 1, command)?;
+    }
+    space.known();
+    Ok(space)
+}
