@@ -1,6 +1,6 @@
 //! A line of a case: a recipe, and the values of its parameters.
 
-ghost use Rattle.std.specs.Prelude.{◌≤◌, ◌^◌, ◌→◌, IsTrue};
+ghost use Rattle.std.specs.Prelude.{◌^◌, IsTrue};
 ghost use Rattle.std.specs.List.{All};
 ghost use Rattle.ch_affine.specs.Affine.{IsAtMost};
 
