@@ -1,5 +1,5 @@
 -- What loops gather: accesses that meet, partners, sides and cells.
-use Rattle.std.proofs.Common.{◌≡◌, refl, sym, ap, ap₂, ◌∙◌, subst, ℕ, zero, suc, ◌+◌, ◌-◌, ◌<◌, ◌≤◌, ℤ, true, false, Some, List, [], ◌∷◌, ◌++◌, length, map, take, get_or, slice_get, inl, inr, Result, Ok, Err, IfOk, arith}
+use Rattle.std.proofs.Common.{◌≡◌, refl, sym, ap, ap₂, ◌∙◌, subst, ℕ, zero, suc, ◌+◌, ◌-◌, ◌<◌, ◌≤◌, ℤ, true, false, Some, List, [], ◌∷◌, ◌++◌, length, map, take, get_or, slice_get, ◌⊎◌, inl, inr, Result, Ok, Err, IfOk, arith}
 use Rattle.std.specs.Bool.{IsTrue}
 use Rattle.std.specs.List.{All}
 use Rattle.std.specs.declared.alloc.AllocError.{AllocError}
@@ -8,9 +8,10 @@ use Rattle.std.proofs.lemmas.Bool.{cases_lt, false≢true}
 use Rattle.std.proofs.lemmas.List.{get_or-map, get_or_append_left, length-append, length-map, map-append, map_more, take_all, take_more}
 use Rattle.std.proofs.lemmas.List.Elements.{All-nil, All-push}
 use Rattle.ch_depends.specs.declared.sides.Side.{Side}
-use Rattle.ch_depends.specs.Sought.{AreNumbered, IsSide}
+use Rattle.ch_depends.specs.Sought.{AreNumbered, IsSide, StandForReads}
 use Rattle.ch_meeting.specs.Meeting.{IsAccessOf, IsPlain}
 use Rattle.ch_nest.specs.declared.nest.Access.{Access}
+use Rattle.ch_nest.specs.declared.nest.Body.{Body}
 use Rattle.ch_space.specs.declared.piece.Piece.{Piece}
 use Rattle.ch_space.specs.Keeps.{accesses}
 use Rattle.ch_space.proofs.EndsOf.{at_all}
@@ -53,15 +54,55 @@ module _ {X Y : Type 0} (f : X → Y) (P : Y → Type 0) (items : List X) (k : �
 
 -- the accesses of a side
 
-pub reads_known : (s : Side) (items : List Access) → IsSide s → items ≡ reads s.piece.now.body.right → All (IsAccessOf s.piece.now) items
-reads_known s items h e =
+pub reads_known : (s : Side) (items : List Access) → IsSide s → StandForReads s.piece.now.body items → All (IsAccessOf s.piece.now) items
+reads_known s items h r =
     all_in (IsAccessOf s.piece.now) items
-    (λ a i. at_all (IsAccessOf s.piece.now) (accesses s.piece.now.body) a h.accesses (append_left (reads s.piece.now.body.right) (s.piece.now.body.write ∷ []) a (subst (In a) e i)))
+    (λ a i. at_all (IsAccessOf s.piece.now) (accesses s.piece.now.body) a h.accesses (append_left (reads s.piece.now.body.right) (s.piece.now.body.write ∷ []) a (r.only a i)))
 
 pub write_known : (s : Side) → IsSide s → IsAccessOf s.piece.now s.piece.now.body.write
 write_known s h =
     at_all (IsAccessOf s.piece.now) (accesses s.piece.now.body) s.piece.now.body.write h.accesses
     (append_right (reads s.piece.now.body.right) (s.piece.now.body.write ∷ []) s.piece.now.body.write (inl refl))
+
+-- reads that stand for all of them
+
+pub record Gleans (w : Access) (xs : List Access) (k : ℕ) (found : List Access) : Type 0 where
+  pub only : (a : Access) → In a found → In a xs
+  pub all : (a : Access) → In a (take k xs) → (a ≡ w) ⊎ In a found
+
+pub gleans_none : (w : Access) (xs : List Access) → Gleans w xs 0 []
+gleans_none w xs = record { only = λ a i. absurd i; all = λ a i. absurd i }
+
+module _ (w : Access) (xs : List Access) (k : ℕ) (found : List Access) (x : Access) (l : k < length xs) (e : x ≡ get_or xs k x) (h : Gleans w xs k found) where
+  next_access : (a : Access) → In a (take (k + 1) xs) → In a (take k xs ++ x ∷ [])
+  next_access a i = subst (In a) (take_more xs k x l ∙ ap (λ z. take k xs ++ z ∷ []) (sym e)) i
+
+  pub gleans_skip : (x ≡ w) ⊎ In x found → Gleans w xs (k + 1) found
+  gleans_skip n = record {
+    only = h.only;
+    all = λ a i. elim (in_append (take k xs) (x ∷ []) a (next_access a i)) as (λ _. (a ≡ w) ⊎ In a found) [
+      | inl j ↦ h.all a j
+      | inr j ↦ elim j as (λ _. (a ≡ w) ⊎ In a found) [ inl m ↦ subst (λ z. (z ≡ w) ⊎ In z found) m n | inr m ↦ absurd m ]
+    ];
+  }
+
+  pub gleans_push : Gleans w xs (k + 1) (found ++ x ∷ [])
+  gleans_push = record {
+    only = λ a i. elim (in_append found (x ∷ []) a i) as (λ _. In a xs) [
+      | inl j ↦ h.only a j
+      | inr j ↦ elim j as (λ _. In a xs) [ inl m ↦ subst (λ z. In z xs) m (item_in xs k x l e) | inr m ↦ absurd m ]
+    ];
+    all = λ a i. elim (in_append (take k xs) (x ∷ []) a (next_access a i)) as (λ _. (a ≡ w) ⊎ In a (found ++ x ∷ [])) [
+      | inl j ↦ elim (h.all a j) as (λ _. (a ≡ w) ⊎ In a (found ++ x ∷ [])) [ inl m ↦ inl m | inr m ↦ inr (append_left found (x ∷ []) a m) ]
+      | inr j ↦ inr (append_right found (x ∷ []) a j)
+    ];
+  }
+
+pub gleaned : (b : Body) (xs : List Access) (k : ℕ) (found : List Access) → length xs ≤ k → xs ≡ reads b.right → Gleans b.write xs k found → StandForReads b found
+gleaned b xs k found l e h = record {
+  only = λ a i. subst (In a) e (h.only a i);
+  all = λ a i. h.all a (subst (In a) (sym e ∙ sym (take_all k xs l)) i);
+}
 
 -- the members of a list with a property
 

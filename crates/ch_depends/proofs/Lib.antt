@@ -3,6 +3,7 @@ pub mod Asked
 pub mod Plains
 pub mod Overtaken
 pub mod Listing
+pub mod MetAt
 pub mod Dependences
 pub mod Points
 pub mod Gathered

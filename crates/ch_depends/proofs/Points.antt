@@ -6,7 +6,7 @@ use Rattle.std.specs.declared.cmp.Ordering.TheVariants.{Less, Equal, Greater}
 use Rattle.std.specs.Cmp.Lexicographic.{slice_cmp}
 use Rattle.std.specs.FinMap.{int_cmp-IsAntisymmetric}
 use Rattle.ch_depends.specs.declared.candidates.Candidate.{Candidate}
-use Rattle.ch_depends.specs.Sought.{Conflicts, IsBest, IsUpTo, Reverses, SomeOf, lesser}
+use Rattle.ch_depends.specs.Sought.{Conflicts, IsAsked, IsBest, IsUpTo, Reverses, SomeOf, StandForReads, lesser}
 use Rattle.ch_depends.proofs.Bests.{best_of}
 use Rattle.ch_meeting.specs.Meeting.{IsLeastPair, IsReversal}
 use Rattle.ch_nest.specs.declared.nest.Access.{Access}
@@ -15,7 +15,6 @@ use Rattle.ch_space.specs.Following.{UpTo}
 use Rattle.ch_space.specs.Keeps.{IsWhole, places_of}
 use Rattle.ch_space.specs.Pieces.{element_at, instances}
 use Rattle.ch_space.proofs.PieceElements.{cons_comes, levels_of, long, woven_same}
-use Rattle.ch_timed.specs.Conflict.{reads}
 use Rattle.ch_timed.specs.declared.element.Element.{Element}
 use Rattle.ch_timed.specs.Members.{In}
 use Rattle.ch_timed.specs.Vectors.{woven}
@@ -98,36 +97,43 @@ module _ (p q r s : Piece) (a b : Access) (wp : IsWhole p) (wq : IsWhole q) wher
       long_take (suc n) (x ∷ xs) e = let i = long_take n xs (omega arith) in omega arith
 
 -- all accesses of which one is a write
-module _ (p q r s : Piece) where
+module _ (p q r s : Piece) (xs ys : List Access) (ours : StandForReads p.body xs) (theirs : StandForReads q.body ys) where
   abbrev Both : Element → Element → Type 0
   Both = Reverses p q r s p.body.write q.body.write
 
   abbrev Later : Element → Element → Type 0
-  Later = SomeOf (reads q.body.right) (Reverses p q r s p.body.write)
+  Later = SomeOf ys (Reverses p q r s p.body.write)
 
   abbrev Earlier : Element → Element → Type 0
-  Earlier = SomeOf (reads p.body.right) (λ a. Reverses p q r s a q.body.write)
+  Earlier = SomeOf xs (λ a. Reverses p q r s a q.body.write)
 
   split : (e f : Element) → Conflicts p q r s e f → (Both e f ⊎ Later e f) ⊎ Earlier e f
   split e f h = by h.asked
     where
-      by : Rattle.ch_depends.specs.Sought.IsAsked p.body q.body h.access h.other → (Both e f ⊎ Later e f) ⊎ Earlier e f
-      by (inl k) = inl (inl (subst (λ z. Reverses p q r s z q.body.write e f) k.0 (subst (λ z. Reverses p q r s h.access z e f) k.1 h.reverses)))
-      by (inr (inl k)) = inl (inr (record { member = h.other; is_member = k.1; holds = subst (λ z. Reverses p q r s z h.other e f) k.0 h.reverses }))
-      by (inr (inr k)) = inr (record { member = h.access; is_member = k.0; holds = subst (λ z. Reverses p q r s h.access z e f) k.1 h.reverses })
+      writes : h.access ≡ p.body.write → h.other ≡ q.body.write → Both e f
+      writes k l = subst (λ z. Reverses p q r s z q.body.write e f) k (subst (λ z. Reverses p q r s h.access z e f) l h.reverses)
 
-  pub all_asked : (xs ys : List Access) (a b c : Option Candidate) → xs ≡ reads p.body.right → ys ≡ reads q.body.right → IsBest Both a → IsBest (SomeOf ys (Reverses p q r s p.body.write)) b
-      → IsBest (SomeOf xs (λ a. Reverses p q r s a q.body.write)) c → IsBest (Conflicts p q r s) (lesser (lesser a b) c)
-  all_asked xs ys a b c ex ey m n o =
+      by : IsAsked p.body q.body h.access h.other → (Both e f ⊎ Later e f) ⊎ Earlier e f
+      by (inl k) = inl (inl (writes k.0 k.1))
+      by (inr (inl k)) = elim (theirs.all h.other k.1) as (λ _. (Both e f ⊎ Later e f) ⊎ Earlier e f) [
+        | inl l ↦ inl (inl (writes k.0 l))
+        | inr i ↦ inl (inr (record { member = h.other; is_member = i; holds = subst (λ z. Reverses p q r s z h.other e f) k.0 h.reverses }))
+      ]
+      by (inr (inr k)) = elim (ours.all h.access k.0) as (λ _. (Both e f ⊎ Later e f) ⊎ Earlier e f) [
+        | inl l ↦ inl (inl (writes l k.1))
+        | inr i ↦ inr (record { member = h.access; is_member = i; holds = subst (λ z. Reverses p q r s h.access z e f) k.1 h.reverses })
+      ]
+
+  pub all_asked : (a b c : Option Candidate) → IsBest Both a → IsBest Later b → IsBest Earlier c → IsBest (Conflicts p q r s) (lesser (lesser a b) c)
+  all_asked a b c m n o =
       best_of (λ e f. Both e f ⊎ Later e f) Earlier (Conflicts p q r s)
       (λ e f t. elim t as (λ _. Conflicts p q r s e f) [
         | inl h ↦ record { access = p.body.write; other = q.body.write; asked = inl (refl, refl); reverses = h }
-        | inr h ↦ record { access = p.body.write; other = h.member; asked = inr (inl (refl, h.is_member)); reverses = h.holds }
+        | inr h ↦ record { access = p.body.write; other = h.member; asked = inr (inl (refl, theirs.only h.member h.is_member)); reverses = h.holds }
       ])
-      (λ e f h. record { access = h.member; other = q.body.write; asked = inr (inr (h.is_member, refl)); reverses = h.holds })
+      (λ e f h. record { access = h.member; other = q.body.write; asked = inr (inr (ours.only h.member h.is_member, refl)); reverses = h.holds })
       split (lesser a b) c
-      (best_of Both Later (λ e f. Both e f ⊎ Later e f) (λ e f h. inl h) (λ e f h. inr h) (λ e f h. h) a b m (subst (λ z. IsBest (SomeOf z (Reverses p q r s p.body.write)) b) ey n))
-      (subst (λ z. IsBest (SomeOf z (λ a. Reverses p q r s a q.body.write)) c) ex o)
+      (best_of Both Later (λ e f. Both e f ⊎ Later e f) (λ e f h. inl h) (λ e f h. inr h) (λ e f h. h) a b m n) o
 
 -- What the function of one question wants.
 

@@ -7,16 +7,13 @@ use Rattle.ch_depends.specs.Sought.{Meets, Reversed}
 use Rattle.ch_meeting.specs.Meeting.{differing_level, vector_at}
 use Rattle.ch_timed.specs.declared.element.Element.{Element}
 
-pub none_reversed : (from to : Side) (answer : Bool) → (IsTrue answer ↔ ((level : ℕ) × Meets from.piece.now to.piece.now level)) → answer ≡ false → (e f : Element) → Reversed from to e f → ⊥
+pub none_reversed : (from to : Side) (answer : Bool) → (answer ≡ false → (level : ℕ) → Meets from.piece.now to.piece.now level → ⊥) → answer ≡ false → (e f : Element) → Reversed from to e f → ⊥
 none_reversed from to answer iff none e f r =
     let c = r.holds.holds in
     let v = c.reverses in
-    both_ways _ none (iff.1 (
-      differing_level 1 (vector_at from.piece.now v.xs) (vector_at to.piece.now v.ys),
-      record {
-        access = c.access;
-        other = c.other;
-        asked = c.asked;
-        meets = record { first = v.xs; second = v.ys; meeting = v.reversal.0; differs = refl };
-      },
-    ))
+    iff none (differing_level 1 (vector_at from.piece.now v.xs) (vector_at to.piece.now v.ys)) (record {
+      access = c.access;
+      other = c.other;
+      asked = c.asked;
+      meets = record { first = v.xs; second = v.ys; meeting = v.reversal.0; differs = refl };
+    })

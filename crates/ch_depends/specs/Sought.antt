@@ -12,6 +12,7 @@ use Rattle.ch_depends.specs.declared.candidates.Candidate.{Candidate}
 use Rattle.ch_depends.specs.declared.sides.Side.{Side}
 use Rattle.ch_depends.specs.Depends.{Ascends, Precedes}
 use Rattle.ch_depends.specs.declared.answers.PiecePair.{PiecePair}
+use Rattle.ch_meeting.specs.declared.question.FourPieces.{FourPieces}
 use Rattle.ch_meeting.specs.Meeting.{HaveCommon, IsAccessOf, IsPlain, IsReversal, MeetsAt}
 use Rattle.ch_nest.specs.declared.nest.Access.{Access}
 use Rattle.ch_nest.specs.declared.nest.Body.{Body}
@@ -81,6 +82,10 @@ pub record Reverses (p q r s : Piece) (a b : Access) (e f : Element) : Type 0 wh
   pub is_first : element_at p xs ≡ e
   pub is_second : element_at q ys ≡ f
 
+-- the same of four pieces
+abbrev pub ReversesBy : FourPieces → Access → Access → Element → Element → Type 0
+ReversesBy w = Reverses w.first.now w.second.now w.new_first.now w.new_second.now
+
 -- the same by some two accesses that are to be asked about
 pub record Conflicts (p q r s : Piece) (e f : Element) : Type 0 where
   pub access : Access
@@ -92,11 +97,16 @@ pub record Conflicts (p q r s : Piece) (e f : Element) : Type 0 where
 abbrev pub partners_of : Side → List Piece
 partners_of s = map (λ r. r.now) s.partners
 
--- what is known of a side: its reads are those of the piece's body
+-- accesses that stand for the reads of a body: they are among them, and each of them is one of these or what the body writes
+pub record StandForReads (b : Body) (xs : List Access) : Type 0 where
+  pub only : (a : Access) → In a xs → In a (reads b.right)
+  pub all : (a : Access) → In a (reads b.right) → (a ≡ b.write) ⊎ In a xs
+
+-- what is known of a side
 pub record IsSide (s : Side) : Type 0 where
   pub plain : IsPlain s.piece.now
   pub accesses : All (IsAccessOf s.piece.now) (accesses s.piece.now.body)
-  pub reads : map (λ a. a.now) s.reads ≡ reads s.piece.now.body.right
+  pub reads : StandForReads s.piece.now.body (map (λ a. a.now) s.reads)
   pub partners : All IsPlain (partners_of s)
 
 -- the side's partners are pieces of its label, and all of these that have elements of the piece

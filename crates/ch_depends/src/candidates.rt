@@ -1,9 +1,9 @@
 //! The least pair of elements that conflict and that another list has the other way round.
 
-ghost use Rattle.std.specs.Prelude.{◌≡◌, map, IfOk};
+ghost use Rattle.std.specs.Prelude.{◌≡◌, ℕ, false, map, IfOk};
 ghost use Rattle.std.specs.List.{All};
-ghost use Rattle.ch_depends.specs.Sought.{Conflicts, IsBest, IsSide, Kept, Reversed, Reverses, SomeOf, is_listed, is_pair, lesser, pair_order, partners_of};
-ghost use Rattle.ch_meeting.specs.Meeting.{IsAccessOf, IsPlain};
+ghost use Rattle.ch_depends.specs.Sought.{Conflicts, IsBest, IsSide, Kept, Meets, Reversed, ReversesBy, SomeOf, is_listed, is_pair, lesser, pair_order, partners_of};
+ghost use Rattle.ch_meeting.specs.Meeting.{AreAccessesOf, ArePlain, IsAccessOf, IsPlain};
 ghost use Rattle.ch_space.specs.Pieces.{element_at, instances};
 ghost use Rattle.ch_timed.specs.Members.{In};
 
@@ -11,7 +11,7 @@ use crate::answers::PiecePair;
 use crate::elements::element_at;
 use crate::levels::depend;
 use crate::sides::Side;
-use ch_meeting::least_reversal;
+use ch_meeting::{FourPieces, TwoAccesses, least_reversal};
 use ch_nest::Access;
 use ch_space::Piece;
 use ch_timed::Element;
@@ -68,81 +68,87 @@ fn candidate_at(
     Ok(Candidate { first, second })
 }
 
-/// The least pair that two accesses make conflict, where `r` and `s` have it the other way round.
+/// The least pair that two accesses make conflict and that the new pieces have the other way round.
 fn least_by(
     alloc: Global,
-    p: &Piece,
-    q: &Piece,
-    r: &Piece,
-    s: &Piece,
-    access: &Access,
-    other: &Access,
+    pieces: &FourPieces,
+    accesses: &TwoAccesses,
 ) -> Result<Option<Candidate>, AllocError>
-    requires p { IsPlain p.now }
-    requires q { IsPlain q.now }
-    requires r { IsPlain r.now }
-    requires s { IsPlain s.now }
-    requires access { IsAccessOf p.now access.now }
-    requires other { IsAccessOf q.now other.now }
-    ensures { IfOk result (IsBest (Reverses p.now q.now r.now s.now access.now other.now)) }
+    requires pieces { ArePlain pieces.now }
+    requires accesses { AreAccessesOf pieces.now.first.now pieces.now.second.now accesses.now }
+    ensures { IfOk result (IsBest (ReversesBy pieces.now accesses.now.first.now
+        accesses.now.second.now)) }
 {
-    match least_reversal(alloc, p, q, r, s, access, other)? {
+    match least_reversal(alloc, pieces, accesses)? {
         None => Ok(None),
         Some(point) => {
-            let (xs, ys) = point.as_slice().split_at(p.levels as usize);
-            Ok(Some(candidate_at(alloc, p, q, xs, ys)?))
+            let (xs, ys) = point.as_slice().split_at(pieces.first.levels as usize);
+            Ok(Some(candidate_at(alloc, pieces.first, pieces.second, xs, ys)?))
         }
     }
 }
 
-/// The same over the write of `p` and each of some reads of `q`.
+/// The same over the write of the first piece and each of some reads of the second.
 fn least_with_reads(
     alloc: Global,
-    p: &Piece,
-    q: &Piece,
-    r: &Piece,
-    s: &Piece,
+    pieces: &FourPieces,
     others: &[&Access],
 ) -> Result<Option<Candidate>, AllocError>
-    requires p { IsPlain p.now }
-    requires q { IsPlain q.now }
-    requires r { IsPlain r.now }
-    requires s { IsPlain s.now }
-    requires access { IsAccessOf p.now p.now.body.write }
-    requires others { All (IsAccessOf q.now) (map (λ a. a.now) others.now) }
+    requires pieces { ArePlain pieces.now }
+    requires access { IsAccessOf pieces.now.first.now pieces.now.first.now.body.write }
+    requires others { All (IsAccessOf pieces.now.second.now) (map (λ a. a.now) others.now) }
     ensures { IfOk result (IsBest (SomeOf (map (λ a. a.now) others.now)
-        (Reverses p.now q.now r.now s.now p.now.body.write))) }
+        (ReversesBy pieces.now pieces.now.first.now.body.write))) }
 {
+    let first = &pieces.first.body.write;
     let mut best = None;
     for other in others {
-        best = lesser(best, least_by(alloc, p, q, r, s, &p.body.write, other)?);
+        let accesses = TwoAccesses {
+            first,
+            second: *other,
+        };
+        best = lesser(best, least_by(alloc, pieces, &accesses)?);
     }
     Ok(best)
 }
 
-/// The same over each of some reads of `p` and the write of `q`.
+/// The same over each of some reads of the first piece and the write of the second.
 fn least_with_write(
     alloc: Global,
-    p: &Piece,
-    q: &Piece,
-    r: &Piece,
-    s: &Piece,
+    pieces: &FourPieces,
     reads: &[&Access],
 ) -> Result<Option<Candidate>, AllocError>
-    requires p { IsPlain p.now }
-    requires q { IsPlain q.now }
-    requires r { IsPlain r.now }
-    requires s { IsPlain s.now }
-    requires reads { All (IsAccessOf p.now) (map (λ a. a.now) reads.now) }
-    requires other { IsAccessOf q.now q.now.body.write }
+    requires pieces { ArePlain pieces.now }
+    requires reads { All (IsAccessOf pieces.now.first.now) (map (λ a. a.now) reads.now) }
+    requires other { IsAccessOf pieces.now.second.now pieces.now.second.now.body.write }
     ensures { IfOk result (IsBest (SomeOf (map (λ a. a.now) reads.now)
-        (λ a. Reverses p.now q.now r.now s.now a q.now.body.write))) }
+        (λ a. ReversesBy pieces.now a pieces.now.second.now.body.write))) }
 {
+    let second = &pieces.second.body.write;
     let mut best = None;
     for access in reads {
-        best = lesser(best, least_by(alloc, p, q, r, s, access, &q.body.write)?);
+        let accesses = TwoAccesses {
+            first: *access,
+            second,
+        };
+        best = lesser(best, least_by(alloc, pieces, &accesses)?);
     }
     Ok(best)
+}
+
+/// The same over both writes.
+fn least_with_writes(alloc: Global, pieces: &FourPieces) -> Result<Option<Candidate>, AllocError>
+    requires pieces { ArePlain pieces.now }
+    requires access { IsAccessOf pieces.now.first.now pieces.now.first.now.body.write }
+    requires other { IsAccessOf pieces.now.second.now pieces.now.second.now.body.write }
+    ensures { IfOk result (IsBest (ReversesBy pieces.now pieces.now.first.now.body.write
+        pieces.now.second.now.body.write)) }
+{
+    let accesses = TwoAccesses {
+        first: &pieces.first.body.write,
+        second: &pieces.second.body.write,
+    };
+    least_by(alloc, pieces, &accesses)
 }
 
 /// The same over all accesses of which one is a write.
@@ -159,11 +165,15 @@ fn least_between(
     requires s { IsPlain s.now }
     ensures { IfOk result (IsBest (Conflicts from.now.piece.now to.now.piece.now r.now s.now)) }
 {
-    let p = from.piece;
-    let q = to.piece;
-    let both = least_by(alloc, p, q, r, s, &p.body.write, &q.body.write)?;
-    let later = least_with_reads(alloc, p, q, r, s, to.reads.as_slice())?;
-    let earlier = least_with_write(alloc, p, q, r, s, from.reads.as_slice())?;
+    let pieces = FourPieces {
+        first: from.piece,
+        second: to.piece,
+        new_first: r,
+        new_second: s,
+    };
+    let both = least_with_writes(alloc, &pieces)?;
+    let later = least_with_reads(alloc, &pieces, to.reads.as_slice())?;
+    let earlier = least_with_write(alloc, &pieces, from.reads.as_slice())?;
     Ok(lesser(lesser(both, later), earlier))
 }
 
@@ -187,6 +197,20 @@ fn least_after(
     Ok(best)
 }
 
+/// Whether the partners of two sides are to be asked about: not where no elements of the sides conflict. Where each side has one
+/// partner, that is asked with the partners at once.
+fn may_depend(alloc: Global, from: &Side, to: &Side) -> Result<bool, AllocError>
+    requires from { IsSide from.now }
+    requires to { IsSide to.now }
+    ensures { IfOk result (λ answer. answer ≡ false → (level : ℕ)
+        → Meets from.now.piece.now to.now.piece.now level → ⊥) }
+{
+    if from.partners.len() <= 1 && to.partners.len() <= 1 {
+        return Ok(true);
+    }
+    depend(alloc, from, to)
+}
+
 /// The least pair of elements of two sides that some of their partners have the other way round.
 fn least_of_sides(alloc: Global, from: &Side, to: &Side) -> Result<Option<Candidate>, AllocError>
     requires from { IsSide from.now }
@@ -194,7 +218,7 @@ fn least_of_sides(alloc: Global, from: &Side, to: &Side) -> Result<Option<Candid
     ensures { IfOk result (IsBest (Reversed from.now to.now)) }
 {
     // Most pairs of pieces have nothing to reverse, which takes much less asking than each pair of partners does.
-    if !depend(alloc, from, to)? {
+    if !may_depend(alloc, from, to)? {
         return Ok(None);
     }
     let mut best = None;

@@ -12,7 +12,7 @@ ghost use Rattle.ch_timed.specs.Members.{In};
 use crate::answers::Level;
 use crate::sides::{Side, all_sides};
 use ch_affine::List;
-use ch_meeting::meets_at;
+use ch_meeting::{TwoAccesses, meets_at};
 use ch_nest::Access;
 use ch_space::{Piece, Space};
 use std::alloc::{AllocError, Global};
@@ -33,8 +33,13 @@ fn write_meets(
         ↔ ((a : Access) × (In a (map (λ a. a.now) others.now)
         × MeetsAt p.now q.now p.now.body.write a level))) }
 {
+    let first = &p.body.write;
     for other in others {
-        if meets_at(alloc, p, q, &p.body.write, other, level)? {
+        let accesses = TwoAccesses {
+            first,
+            second: *other,
+        };
+        if meets_at(alloc, p, q, &accesses, level)? {
             return Ok(true);
         }
     }
@@ -57,8 +62,13 @@ fn read_meets(
         ↔ ((a : Access) × (In a (map (λ a. a.now) reads.now)
         × MeetsAt p.now q.now a q.now.body.write level))) }
 {
+    let second = &q.body.write;
     for access in reads {
-        if meets_at(alloc, p, q, access, &q.body.write, level)? {
+        let accesses = TwoAccesses {
+            first: *access,
+            second,
+        };
+        if meets_at(alloc, p, q, &accesses, level)? {
             return Ok(true);
         }
     }
@@ -74,7 +84,11 @@ fn depend_at(alloc: Global, from: &Side, to: &Side, level: u32) -> Result<bool, 
 {
     let p = from.piece;
     let q = to.piece;
-    if meets_at(alloc, p, q, &p.body.write, &q.body.write, level)? {
+    let writes = TwoAccesses {
+        first: &p.body.write,
+        second: &q.body.write,
+    };
+    if meets_at(alloc, p, q, &writes, level)? {
         return Ok(true);
     }
     if write_meets(alloc, p, q, to.reads.as_slice(), level)? {

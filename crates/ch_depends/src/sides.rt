@@ -2,7 +2,8 @@
 
 ghost use Rattle.std.specs.Prelude.{◌≡◌, map, IfOk, IsTrue, ◌↔◌};
 ghost use Rattle.std.specs.List.{All};
-ghost use Rattle.ch_depends.specs.Sought.{AreNumbered, IsPaired, IsSide};
+ghost use Rattle.std.proofs.Common.{◌⊎◌};
+ghost use Rattle.ch_depends.specs.Sought.{AreNumbered, IsPaired, IsSide, StandForReads};
 ghost use Rattle.ch_meeting.specs.Meeting.{HaveCommon, IsAccessOf, IsPlain};
 ghost use Rattle.ch_space.specs.Keeps.{accesses};
 ghost use Rattle.ch_timed.specs.Members.{In};
@@ -10,18 +11,55 @@ ghost use Rattle.ch_timed.specs.Members.{In};
 use crate::cells::reads;
 use ch_affine::List;
 use ch_meeting::have_common;
-use ch_nest::Access;
+use ch_nest::{Access, Body};
+use ch_order::same_access;
 use ch_space::Piece;
 use ch_timed::Label;
 use std::alloc::{AllocError, Global};
 
-/// A piece with its number in its list, the accesses that its body reads, and the pieces of another list that have its elements.
+/// A piece with its number in its list, the accesses that its body reads besides the one that it writes, each once, and the pieces
+/// of another list that have its elements.
 #[derive(Drop)]
 pub(crate) struct Side<'a> {
     pub(crate) number: usize,
     pub(crate) piece: &'a Piece,
     pub(crate) reads: List<&'a Access>,
     pub(crate) partners: List<&'a Piece>,
+}
+
+/// Whether it is one of the accesses.
+fn has_access(access: &Access, others: &[&Access]) -> bool
+    ensures { IsTrue result → In access.now (map (λ a. a.now) others.now) }
+{
+    for other in others {
+        if same_access(access, other) {
+            return true;
+        }
+    }
+    false
+}
+
+/// Whether it is the write or one of the reads.
+fn is_known(access: &Access, write: &Access, reads: &[&Access]) -> bool
+    ensures { IsTrue result → (access.now ≡ write.now)
+        ⊎ In access.now (map (λ a. a.now) reads.now) }
+{
+    same_access(access, write) || has_access(access, reads)
+}
+
+/// The accesses that a body reads besides the one that it writes, each once: an accumulation's read of its own cell conflicts where
+/// its write does.
+fn other_reads<'a>(alloc: Global, body: &'a Body) -> Result<List<&'a Access>, AllocError>
+    ensures { IfOk result (λ found. StandForReads body.now (map (λ a. a.now) found)) }
+{
+    let all = reads(alloc, &body.right)?;
+    let mut found = List::new(alloc);
+    for access in all.as_slice() {
+        if !is_known(access, &body.write, found.as_slice()) {
+            found.push(*access)?;
+        }
+    }
+    Ok(found)
 }
 
 fn has_label(piece: &Piece, label: Label) -> bool
@@ -106,7 +144,7 @@ fn side_of<'a>(
     ensures side { IfOk result IsSide }
     ensures paired { IfOk result (IsPaired news.now) }
 {
-    let reads = reads(alloc, &piece.body.right)?;
+    let reads = other_reads(alloc, &piece.body)?;
     let partners = partners(alloc, piece, news)?;
     Ok(Side {
         number,

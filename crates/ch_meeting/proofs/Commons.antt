@@ -1,5 +1,5 @@
 -- Drafts of queries, and the pairs that have the same iterators.
-use Rattle.std.proofs.Common.{◌≡◌, refl, sym, ap, ap₂, ◌∙◌, subst, ℕ, ◌+◌, ◌≤◌, ◌^◌, ℤ, Bool, Option, Some, None, List, [], ◌∷◌, ◌++◌, length, take, drop, is_some, arith, ◌↔◌, append-nil, length-append}
+use Rattle.std.proofs.Common.{◌≡◌, refl, sym, ap, ap₂, ◌∙◌, subst, ℕ, ◌+◌, ◌≤◌, ◌^◌, ℤ, Bool, false, Option, Some, None, List, [], ◌∷◌, ◌++◌, length, take, drop, is_some, arith, ◌↔◌, append-nil, length-append}
 use Rattle.std.specs.Bool.{IsTrue}
 use Rattle.std.specs.List.{All}
 use Rattle.std.proofs.lemmas.Bool.{both_ways}
@@ -13,7 +13,7 @@ use Rattle.ch_timed.specs.Members.{In}
 use Rattle.ch_timed.proofs.Orders.{map_in}
 use Rattle.ch_meeting.specs.declared.draft.Draft.{Draft}
 use Rattle.ch_meeting.specs.Asked.{AreCommon, Asks, common_boxes, pair_size}
-use Rattle.ch_meeting.specs.Drafts.{IsDraft, IsLeastFit, Narrows, part}
+use Rattle.ch_meeting.specs.Drafts.{IsDraft, IsLeastFit, Narrows, NoneFits, part}
 use Rattle.ch_meeting.specs.Meeting.{HaveCommon, IsPlain, iters_at}
 use Rattle.ch_meeting.specs.Placed.{HoldsAt, TiedAt, pair_boxes, wides}
 use Rattle.ch_meeting.proofs.Layouts.{length_wides, near_inside, pair_each, wides_boxes}
@@ -45,6 +45,24 @@ asked d new boxes P e f few each a = record {
       inside = subst (λ bs. IsTrue (lies_in bs z)) (sym (a.boxes ∙ e)) p.0;
       holds = (a.exact z (subst (λ bs. IsTrue (lies_in bs z)) (sym e) p.0)).1 (ap (λ rows. all_hold rows z) f, p.1);
     },
+  );
+}
+
+-- one more thing that is asked
+pub asks_more : (d new : Draft) (boxes : List Range) (P Q : List ℤ → Type 0) → Asks d boxes P → Narrows d new Q → Asks new boxes (λ z. P z × Q z)
+asks_more d new boxes P Q k a = record {
+  boxes_are = a.boxes ∙ k.boxes_are;
+  draft = narrowed_draft d new Q k.draft a;
+  exact = λ z. (
+    λ h. (let i = subst (λ bs. IsTrue (lies_in bs z)) a.boxes h.inside in
+        let e = (a.exact z i).0 h.holds in
+        let f = (k.exact z).0 (record { inside = i; holds = e.0 }) in
+        (f.0, (f.1, e.1))),
+    λ p. (let f = (k.exact z).1 (p.0, p.1.0) in
+        record {
+          inside = subst (λ bs. IsTrue (lies_in bs z)) (sym a.boxes) f.inside;
+          holds = (a.exact z f.inside).1 (f.holds, p.1.1);
+        }),
   );
 }
 
@@ -169,3 +187,7 @@ pub common_answer : (p q : Piece) → IsPlain p → IsPlain q → length p.origi
     → IsLeastFit d point → b ≡ is_some point → IsTrue b ↔ HaveCommon p q
 common_answer p q w v same d point b k l e =
     some_fits d (common_boxes p q) (AreCommon p q) (HaveCommon p q) point b k l e (common_to p q w v same) (common_from p q w v same)
+
+pub common_none : (p q : Piece) → IsPlain p → IsPlain q → length p.origin ≡ length q.origin → (d : Draft) → Asks d (common_boxes p q) (AreCommon p q) → NoneFits d
+    → IsTrue false ↔ HaveCommon p q
+common_none p q w v same d k n = (λ t. absurd (both_ways _ refl t), λ h. absurd (let z = common_from p q w v same h in n z.0 ((k.exact z.0).1 z.1)))

@@ -6,11 +6,13 @@ use Rattle.std.proofs.lemmas.Bool.{both_ways}
 use Rattle.std.proofs.lemmas.List.{length-map, take_more, take_all}
 use Rattle.ch_nest.specs.declared.nest.Access.{Access}
 use Rattle.ch_nest.specs.Run.{sub_value}
+use Rattle.ch_timed.specs.Conflict.{cell_of}
 use Rattle.ch_timed.specs.Members.{In}
 use Rattle.ch_meeting.specs.declared.orders.Order.{Order}
 use Rattle.ch_meeting.specs.Asked.{MeetsByAt}
 use Rattle.ch_meeting.specs.Cases.{OneOf}
-use Rattle.ch_meeting.specs.Meeting.{MeetsAt, iters_at}
+use Rattle.ch_meeting.specs.declared.question.TwoAccesses.{TwoAccesses}
+use Rattle.ch_meeting.specs.Meeting.{AreAlike, MeetsAt}
 use Rattle.ch_meeting.proofs.Comparisons.{AtLevels, Exact}
 use Rattle.ch_space.specs.declared.piece.Piece.{Piece}
 use Rattle.ch_space.specs.Keeps.{IsWhole}
@@ -40,14 +42,14 @@ one_found P os k d b l g e = (λ t. (get_or os k d, (get_in os k d l, g.0 e)), �
 pub none_found : (P : Order → Type 0) (os : List Order) (k : ℕ) → length os ≤ k → (OneOf P (take k os) → ⊥) → IsTrue false ↔ OneOf P os
 none_found P os k l h = (λ t. absurd (both_ways false refl t), λ c. absurd (h (subst (OneOf P) (sym (take_all k os l)) c)))
 
+-- accesses that name one cell are alike
+pub cells_alike : (c : TwoAccesses) (i j : List ℤ) → cell_of i c.first.now ≡ cell_of j c.second.now → AreAlike c
+cells_alike c i j e = record {
+  array = ap (λ x. x.array) e;
+  subscripts = sym (length-map c.first.now.subs (sub_value i)) ∙ ap (λ x. length x.subs) e ∙ length-map c.second.now.subs (sub_value j);
+}
+
 module _ (p q : Piece) (a b : Access) (level : ℕ) where
-  pub no_array : (a.array ≡ b.array → ⊥) → MeetsAt p q a b level → ⊥
-  no_array h k = h (ap (λ c. c.array) k.meeting.cell)
-
-  pub no_subscripts : (length a.subs ≡ length b.subs → ⊥) → MeetsAt p q a b level → ⊥
-  no_subscripts h k =
-      h (sym (length-map a.subs (sub_value (iters_at p k.first))) ∙ ap (λ c. length c.subs) k.meeting.cell ∙ length-map b.subs (sub_value (iters_at q k.second)))
-
   levels_all : IsWhole p → IsWhole q → (orders : List Order) → Exact p.places q.places orders → AtLevels p.places q.places orders → (r : Bool)
       → (IsTrue r ↔ OneOf (MeetsByAt level p q a b) orders) → IsTrue r ↔ MeetsAt p q a b level
   levels_all w v orders exact levels r h = (λ t. to (h.0 t), λ k. h.1 (from k))

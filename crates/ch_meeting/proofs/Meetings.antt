@@ -20,7 +20,7 @@ use Rattle.ch_meeting.specs.declared.draft.Draft.{Draft}
 use Rattle.ch_meeting.specs.declared.orders.Order.{Order}
 use Rattle.ch_meeting.specs.Asked.{AreMeeting, AreMeetingBy, Asks, IsMeetingBy, MeetsBy, first_site, meeting_boxes, pair_size, second_site}
 use Rattle.ch_meeting.specs.Cases.{InOrder, IsWithin}
-use Rattle.ch_meeting.specs.Drafts.{IsLeastFit, part}
+use Rattle.ch_meeting.specs.Drafts.{IsLeastFit, NoneFits, part}
 use Rattle.ch_meeting.specs.Meeting.{IsAccessOf, IsPlain, iters_at}
 use Rattle.ch_meeting.specs.Placed.{InModulus, IsSame, SameUpTo, cell_boxes, left, only, pair_boxes, turn_range, wides}
 use Rattle.ch_meeting.proofs.Commons.{held_there, iters_long, iters_small, none_before, pair_long, some_fits, tied_there}
@@ -255,7 +255,7 @@ module _ (o : Order) (p q : Piece) (a b : Access) (w : IsPlain p) (v : IsPlain q
   meeting_to z i h = record {
     first = part 0 p.levels z;
     second = part p.levels q.levels z;
-    meeting = meeting_here (cell_boxes (length p.origin) (length q.origin) a b) (pair_size p q) z (lies_inside (meeting_boxes p q a b) z i) h.0 h.1;
+    meeting = meeting_here (cell_boxes (length p.origin) (length q.origin) a b) (pair_size p q) z (lies_inside (meeting_boxes p q a b) z i) h.1 h.0;
   }
 
   pub meeting_from : MeetsBy o p q a b → (z : List ℤ) × (IsTrue (lies_in (meeting_boxes p q a b) z) × AreMeetingBy o p q a b z)
@@ -276,23 +276,28 @@ module _ (o : Order) (p q : Piece) (a b : Access) (w : IsPlain p) (v : IsPlain q
           let l5 : length (iters_at p xs) ≡ length p.origin = iters_long p xs in
           let l6 : length (iters_at q ys) ≡ length q.origin = iters_long q ys in
           let l7 = t.1.long in
-          let l8 : length u.0 ≡ length a.subs = u.1.long ∙ sym same in (
+          let l8 : length u.0 ≡ length a.subs = u.1.long ∙ sym same in
+          let there = meeting_there xs ys m (pair_size p q) z t.0 u.0 e h
+          (behind_at ws 0 0 p.levels refl (omega arith) (sym l1)) (behind_at ws 1 p.levels q.levels (omega arith) (omega arith) (sym l2))
+          (behind_at ws 2 (p.levels + q.levels) p.hidden (omega arith) (omega arith) (sym l3)) (behind_at ws 3 (p.levels + q.levels + p.hidden) q.hidden (omega arith) (omega arith) (sym l4))
+          (behind_at ws 4 (pair_size p q) (length p.origin) (omega arith) (omega arith) (sym l5)) (behind_at ws 5 (pair_size p q + length p.origin) (length q.origin) (omega arith) (omega arith) (sym l6))
+          (behind_at ws 6 (pair_size p q + length p.origin + length q.origin) (length a.subs) (omega arith) (omega arith) (sym l7))
+          (behind_at ws 7 (pair_size p q + length p.origin + length q.origin + length a.subs) (length a.subs) (omega arith) (omega arith) (sym l8))
+          t.1 u.1 in (
             z,
             (
               inside_lies (meeting_boxes p q a b) z (pair_inside p q xs ys (iters_at p xs ++ (iters_at q ys ++ (t.0 ++ (u.0 ++ pos 1 ∷ [])))) (cell_boxes (length p.origin) (length q.origin) a b) e h
                   (rest_inside xs ys m t.0 u.0 t.1 u.1)),
-              meeting_there xs ys m (pair_size p q) z t.0 u.0 e h
-                  (behind_at ws 0 0 p.levels refl (omega arith) (sym l1)) (behind_at ws 1 p.levels q.levels (omega arith) (omega arith) (sym l2))
-                  (behind_at ws 2 (p.levels + q.levels) p.hidden (omega arith) (omega arith) (sym l3)) (behind_at ws 3 (p.levels + q.levels + p.hidden) q.hidden (omega arith) (omega arith) (sym l4))
-                  (behind_at ws 4 (pair_size p q) (length p.origin) (omega arith) (omega arith) (sym l5)) (behind_at ws 5 (pair_size p q + length p.origin) (length q.origin) (omega arith) (omega arith) (sym l6))
-                  (behind_at ws 6 (pair_size p q + length p.origin + length q.origin) (length a.subs) (omega arith) (omega arith) (sym l7))
-                  (behind_at ws 7 (pair_size p q + length p.origin + length q.origin + length a.subs) (length a.subs) (omega arith) (omega arith) (sym l8))
-                  t.1 u.1,
+              (there.1, there.0),
             ),
           ))
 
   pub meeting_answer : (d : Draft) (point : Option (List ℤ)) (r : Bool) → Asks d (meeting_boxes p q a b) (AreMeetingBy o p q a b) → IsLeastFit d point → r ≡ is_some point → IsTrue r ↔ MeetsBy o p q a b
   meeting_answer d point r k l e = some_fits d (meeting_boxes p q a b) (AreMeetingBy o p q a b) (MeetsBy o p q a b) point r k l e meeting_to meeting_from
+
+  -- where no point fits what is asked in whatever order, none meet
+  pub meeting_none : (d : Draft) → Asks d (meeting_boxes p q a b) (AreMeeting p q a b (pair_size p q)) → NoneFits d → MeetsBy o p q a b → ⊥
+  meeting_none d k n m = let z = meeting_from m in n z.0 ((k.exact z.0).1 (z.1.0, z.1.1.0))
 
 -- the draft of a meeting
 

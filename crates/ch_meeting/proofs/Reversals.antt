@@ -20,15 +20,16 @@ use Rattle.ch_timed.specs.Members.{In}
 use Rattle.ch_timed.specs.Vectors.{comes_before}
 use Rattle.ch_meeting.specs.declared.draft.Draft.{Draft}
 use Rattle.ch_meeting.specs.declared.orders.Order.{Order}
-use Rattle.ch_meeting.specs.Asked.{AreMeeting, AreReversal, AreTurned, Asks, IsMeetingBy, IsReversalAmong, IsReversalBy, IsTurnedBy, cells_end, lesser, pair_size, reversal_boxes, reversal_iters, second_if}
+use Rattle.ch_meeting.specs.declared.question.FourPieces.{FourPieces}
+use Rattle.ch_meeting.specs.Asked.{AreMeeting, AreReversal, AreReversalBy, AreTurned, Asks, InOrders, IsMeetingBy, IsReversalAmong, IsReversalBy, IsTurnedAmong, IsTurnedBy, MeetsBy, cells_end, lesser, pair_size, reversal_boxes, reversal_iters, second_if}
 use Rattle.ch_meeting.specs.Cases.{InOrder, IsWithin, OneOf}
 use Rattle.ch_meeting.specs.Drafts.{IsLeastFit, Narrows, part}
-use Rattle.ch_meeting.specs.Meeting.{IsAccessOf, IsLeastPair, IsPlain, IsReversal, iters_at}
+use Rattle.ch_meeting.specs.Meeting.{AreComparable, IsAccessOf, IsLeastPair, IsPlain, IsReversal, IsTurned, iters_at}
 use Rattle.ch_meeting.specs.Placed.{cell_boxes, pair_boxes}
 use Rattle.ch_meeting.proofs.Commons.{held_there, iters_long, none_before, pair_long, tied_there}
 use Rattle.ch_meeting.proofs.Comparisons.{Exact}
 use Rattle.ch_meeting.proofs.Layouts.{cell_each, pair_each}
-use Rattle.ch_meeting.proofs.Least.{inside_lies, lies_inside, narrowed_thrice}
+use Rattle.ch_meeting.proofs.Least.{inside_lies, lies_inside, narrowed_twice}
 use Rattle.ch_meeting.proofs.Meetings.{Brought, Turns, brought, cell_long, cell_one, first_turns, in_parts, meeting_here, meeting_there, pair_inside, parts_in, rest_inside, second_turns}
 use Rattle.ch_meeting.proofs.Parts.{behind_at, pair_instances, split_at}
 use Rattle.ch_meeting.proofs.Steps.{long_point}
@@ -36,7 +37,7 @@ use Rattle.ch_space.specs.declared.piece.Piece.{Piece}
 use Rattle.ch_space.specs.Following.{UpTo}
 use Rattle.ch_space.specs.Keeps.{IsWhole}
 use Rattle.ch_space.specs.Pieces.{instances}
-use Rattle.ch_space.proofs.EndsOf.{take_up_to}
+use Rattle.ch_space.proofs.EndsOf.{at_all, take_up_to}
 use Rattle.ch_space.proofs.Followings.{is_less}
 use Rattle.ch_space.proofs.Membership.{append_left, append_right, in_append}
 use Rattle.ch_space.proofs.PieceElements.{levels_of}
@@ -54,27 +55,27 @@ module _ (o t : Order) (p q r s : Piece) (a b : Access) (w : IsPlain p) (v : IsP
   abbrev Cells : List Range
   Cells = cell_boxes (length p.origin) (length q.origin) a b
 
-  reversal_to : (z : List ℤ) → IsTrue (lies_in (reversal_boxes p q r s a b) z) → AreReversal o t p q r s a b z → IsReversalBy o t p q r s a b (part 0 p.levels z) (part p.levels q.levels z)
+  reversal_to : (z : List ℤ) → IsTrue (lies_in (reversal_boxes p q r s a b) z) → AreReversalBy o t p q r s a b z → IsReversalBy o t p q r s a b (part 0 p.levels z) (part p.levels q.levels z)
   reversal_to z i h =
       let inside = lies_inside (reversal_boxes p q r s a b) z i in
-      let pair = pair_instances p q w.whole v.whole (pair_boxes s r ++ Cells) 0 z inside h.1.2 in
+      let pair = pair_instances p q w.whole v.whole (pair_boxes s r ++ Cells) 0 z inside h.0.0.2 in
       let start : 0 + p.levels + q.levels + p.hidden + q.hidden ≡ Base = omega arith in
       let behind = subst (λ n. InBox (pair_boxes s r ++ Cells) (drop n z)) start pair.2 in
-      let new = pair_instances s r y.whole x.whole Cells Base z behind h.2.3 in (
-        meeting_here o p q a b w v f g array same within (pair_boxes s r ++ Cells) Iters z inside h.0 h.1,
+      let new = pair_instances s r y.whole x.whole Cells Base z behind h.0.1.2 in (
+        meeting_here o p q a b w v f g array same within (pair_boxes s r ++ Cells) Iters z inside h.1.0 h.0.0,
         record {
           first = part (Base + s.levels) r.levels z;
           second = part Base s.levels z;
           is_first = new.1;
           is_second = new.0;
-          same_first = sym h.2.2 ∙ ap (λ n. part Iters n z) same_first ∙ h.1.0.0;
-          same_second = sym h.2.1 ∙ ap (λ n. part (Iters + length p.origin) n z) same_second ∙ h.1.0.1 ∙ ap (λ n. iters_at q (part n q.levels z)) (none_before p.levels);
-          order = parts_in t s.levels r.levels Base (Base + s.levels) z turned_within h.2.0;
+          same_first = sym h.0.1.1 ∙ ap (λ n. part Iters n z) same_first ∙ h.0.0.0.0;
+          same_second = sym h.0.1.0 ∙ ap (λ n. part (Iters + length p.origin) n z) same_second ∙ h.0.0.0.1 ∙ ap (λ n. iters_at q (part n q.levels z)) (none_before p.levels);
+          order = parts_in t s.levels r.levels Base (Base + s.levels) z turned_within h.1.1;
         },
       )
 
   abbrev Stands : List ℤ → List ℤ → Type 0
-  Stands xs ys = (z : List ℤ) × (IsTrue (lies_in (reversal_boxes p q r s a b) z) × (AreReversal o t p q r s a b z × (take (p.levels + q.levels) z ≡ xs ++ ys)))
+  Stands xs ys = (z : List ℤ) × (IsTrue (lies_in (reversal_boxes p q r s a b) z) × (AreReversalBy o t p q r s a b z × (take (p.levels + q.levels) z ≡ xs ++ ys)))
 
   stands_at : (xs ys : List ℤ) (m : IsMeetingBy o p q a b xs ys) (k : IsTurnedBy t p q r s xs ys) → Brought p xs → Brought q ys → Brought s k.second → Brought r k.first
       → (ts : List ℤ) × Turns a.subs (iters_at p xs) ts → (us : List ℤ) × Turns b.subs (iters_at q ys) us → Stands xs ys
@@ -111,18 +112,22 @@ module _ (o t : Order) (p q r s : Piece) (a b : Access) (w : IsPlain p) (v : IsP
               (rest_inside o p q a b w v f g array same within xs ys m ta.0 tb.0 ta.1 tb.1))),
           (
             (
-              there.0,
-              there.1,
               (
+                there.1,
+                (
+                  tied_there s Base (Iters + length p.origin) z k.second (iters_at q ys) b4 (b9 (length s.origin) same_second) (sym k.same_second),
+                  tied_there r (Base + s.levels) Iters z k.first (iters_at p xs) b5 (b8 (length r.origin) same_first) (sym k.same_first),
+                  (
+                    held_there s Base (Base + s.levels + r.levels) z k.second i.hidden b4 (behind_at ws 6 (Base + s.levels + r.levels) s.hidden (omega arith) (omega arith) (sym n3)) i.rows,
+                    held_there r (Base + s.levels) (Base + s.levels + r.levels + s.hidden) z k.first j.hidden b5
+                        (behind_at ws 7 (Base + s.levels + r.levels + s.hidden) r.hidden (omega arith) (omega arith) (sym n4)) j.rows,
+                  ),
+                ),
+              ),
+              (
+                there.0,
                 in_parts t s.levels r.levels Base (Base + s.levels) z turned_within
                     (subst (λ c. InOrder t c (part (Base + s.levels) r.levels z)) (sym b4) (subst (InOrder t k.second) (sym b5) k.order)),
-                tied_there s Base (Iters + length p.origin) z k.second (iters_at q ys) b4 (b9 (length s.origin) same_second) (sym k.same_second),
-                tied_there r (Base + s.levels) Iters z k.first (iters_at p xs) b5 (b8 (length r.origin) same_first) (sym k.same_first),
-                (
-                  held_there s Base (Base + s.levels + r.levels) z k.second i.hidden b4 (behind_at ws 6 (Base + s.levels + r.levels) s.hidden (omega arith) (omega arith) (sym n3)) i.rows,
-                  held_there r (Base + s.levels) (Base + s.levels + r.levels + s.hidden) z k.first j.hidden b5
-                      (behind_at ws 7 (Base + s.levels + r.levels + s.hidden) r.hidden (omega arith) (omega arith) (sym n4)) j.rows,
-                ),
               ),
             ),
             ap (take (p.levels + q.levels)) (sym (append_assoc xs ys (e.hidden ++ (h.hidden ++ new)))) ∙ take_at (xs ++ ys) (e.hidden ++ (h.hidden ++ new)) (p.levels + q.levels)
@@ -131,12 +136,12 @@ module _ (o t : Order) (p q r s : Piece) (a b : Access) (w : IsPlain p) (v : IsP
         ),
       )
 
-  reversal_from : (xs ys : List ℤ) → IsReversalBy o t p q r s a b xs ys → Stands xs ys
+  pub reversal_from : (xs ys : List ℤ) → IsReversalBy o t p q r s a b xs ys → Stands xs ys
   reversal_from xs ys k =
       stands_at xs ys k.0 k.1 (brought p xs w.whole k.0.first) (brought q ys v.whole k.0.second) (brought s k.1.second y.whole k.1.is_second) (brought r k.1.first x.whole k.1.is_first)
       (first_turns o p q a b w v f g array same within xs ys k.0) (second_turns o p q a b w v f g array same within xs ys k.0)
 
-  module _ (d : Draft) (asks : Asks d (reversal_boxes p q r s a b) (AreReversal o t p q r s a b)) where
+  module _ (d : Draft) (asks : Asks d (reversal_boxes p q r s a b) (AreReversalBy o t p q r s a b)) where
     pub none_reversed : (point : Option (List ℤ)) → point ≡ None → IsLeastFit d point → IsLeastPair p.levels (IsReversalBy o t p q r s a b) None
     none_reversed None e l xs ys k = let z = reversal_from xs ys k in l z.0 ((asks.exact z.0).1 (z.1.0, z.1.1.0))
     none_reversed (Some m) e l xs ys k = absurd cc
@@ -337,29 +342,41 @@ module _ (p q r s : Piece) (a b : Access) where
             ),
           ))
 
-  pub no_array : (a.array ≡ b.array → ⊥) → IsLeastPair p.levels (IsReversal p q r s a b) None
-  no_array h = λ xs ys k. h (ap (λ c. c.array) k.0.cell)
+  -- where the places admit no order of the first two, or none of the others, no pair is reversed
 
-  pub no_subscripts : (length a.subs ≡ length b.subs → ⊥) → IsLeastPair p.levels (IsReversal p q r s a b) None
-  no_subscripts h = λ xs ys k.
-      h (sym (Rattle.std.proofs.lemmas.List.length-map a.subs (Rattle.ch_nest.specs.Run.sub_value (iters_at p xs))) ∙ ap (λ c. length c.subs) k.0.cell
-      ∙ Rattle.std.proofs.lemmas.List.length-map b.subs (Rattle.ch_nest.specs.Run.sub_value (iters_at q ys)))
+  places_long : (u : Piece) (k : IsWhole u) (xs : List ℤ) → In xs (instances u) → length u.places ≡ length xs + 1
+  places_long u k xs i = k.places ∙ ap (λ n. n + 1) (sym (levels_of u xs k i))
 
-  pub no_first : (length r.origin ≡ length p.origin → ⊥) → IsLeastPair p.levels (IsReversal p q r s a b) None
-  no_first h = λ xs ys k. h (sym (iters_long r k.1.first) ∙ ap length k.1.same_first ∙ iters_long p xs)
+  pub no_way : IsWhole p → IsWhole q → (ps qs : List ℕ) (ways : List Order) → ps ≡ p.places → qs ≡ q.places → Exact ps qs ways → ways ≡ []
+      → IsLeastPair p.levels (IsReversal p q r s a b) None
+  no_way w v ps qs ways c d exact e xs ys k =
+      let there : Exact p.places q.places ways = subst (λ i. Exact i q.places ways) c (subst (λ i. Exact ps i ways) d exact) in
+      let o = (there xs ys (places_long p w xs k.0.first) (places_long q v ys k.0.second)).0 k.0.earlier in
+      subst (In o.0) e o.1.0
 
-  pub no_second : (length s.origin ≡ length q.origin → ⊥) → IsLeastPair p.levels (IsReversal p q r s a b) None
-  no_second h = λ xs ys k. h (sym (iters_long s k.1.second) ∙ ap length k.1.same_second ∙ iters_long q ys)
+  pub no_turn : IsWhole r → IsWhole s → (ss rs : List ℕ) (turns : List Order) → ss ≡ s.places → rs ≡ r.places → Exact ss rs turns → turns ≡ []
+      → IsLeastPair p.levels (IsReversal p q r s a b) None
+  no_turn x y ss rs turns c d exact e xs ys k =
+      let there : Exact s.places r.places turns = subst (λ i. Exact i r.places turns) c (subst (λ i. Exact ss i turns) d exact) in
+      let n = k.1 in
+      let o = (there n.second n.first (places_long s y n.second n.is_second) (places_long r x n.first n.is_first)).0 n.turned in
+      subst (In o.0) e o.1.0
 
-  pub reversal_asked : (old one two new : Draft) (o t : Order) (i j k : ℕ) → i ≡ pair_size p q → j ≡ pair_size s r → k ≡ length p.origin
-      → Narrows old one (λ z. InOrder o (drop 0 z) (drop p.levels z)) → Narrows one two (AreMeeting p q a b (i + j)) → Narrows two new (AreTurned t r s i (i + j) (i + j + k))
-      → Narrows old new (AreReversal o t p q r s a b)
-  reversal_asked old one two new o t i j k e f g x y z =
-      narrowed_thrice old one two new (λ z. InOrder o (drop 0 z) (drop p.levels z)) (AreMeeting p q a b (reversal_iters p q r s))
-      (AreTurned t r s (pair_size p q) (reversal_iters p q r s) (reversal_iters p q r s + length p.origin)) x
-      (subst (λ n. Narrows one two (AreMeeting p q a b n)) (ap₂ (λ m n. m + n) e f) y)
-      (subst (λ m. Narrows two new (AreTurned t r s m (pair_size p q + pair_size s r) (pair_size p q + pair_size s r + length p.origin))) e
-      (subst (λ m. Narrows two new (AreTurned t r s i m (m + length p.origin))) (ap₂ (λ m n. m + n) e f) (subst (λ m. Narrows two new (AreTurned t r s i (i + j) (i + j + m))) g z)))
+  pub reversal_asked : (old one new : Draft) (i j k : ℕ) → i ≡ pair_size p q → j ≡ pair_size s r → k ≡ length p.origin
+      → Narrows old one (AreMeeting p q a b (i + j)) → Narrows one new (AreTurned r s i (i + j) (i + j + k)) → Narrows old new (AreReversal p q r s a b)
+  reversal_asked old one new i j k e f g y z =
+      narrowed_twice old one new (AreMeeting p q a b (reversal_iters p q r s))
+      (AreTurned r s (pair_size p q) (reversal_iters p q r s) (reversal_iters p q r s + length p.origin))
+      (subst (λ n. Narrows old one (AreMeeting p q a b n)) (ap₂ (λ m n. m + n) e f) y)
+      (subst (λ m. Narrows one new (AreTurned r s m (pair_size p q + pair_size s r) (pair_size p q + pair_size s r + length p.origin))) e
+      (subst (λ m. Narrows one new (AreTurned r s i m (m + length p.origin))) (ap₂ (λ m n. m + n) e f) (subst (λ m. Narrows one new (AreTurned r s i (i + j) (i + j + m))) g z)))
+
+  -- where no pair meets, none is turned
+  pub not_met : (o : Order) (turns : List Order) → (MeetsBy o p q a b → ⊥) → IsLeastPair p.levels (IsTurnedAmong o turns p q r s a b) None
+  not_met o turns none xs ys k = none (record { first = xs; second = ys; meeting = k.1.1.0 })
+
+  pub none_met : (orders turns : List Order) → ((o : Order) → In o orders → MeetsBy o p q a b → ⊥) → IsLeastPair p.levels (IsReversalAmong orders turns p q r s a b) None
+  none_met orders turns none xs ys k = not_met k.0 turns (none k.0 k.1.0) xs ys k.1.1
 
   pub reversal_ok : IsWhole p → IsWhole q → IsWhole r → IsWhole s → (ps qs ss rs : List ℕ) (ways os turns ts : List Order) → ps ≡ p.places → qs ≡ q.places → ss ≡ s.places → rs ≡ r.places
       → os ≡ ways → ts ≡ turns → Exact ps qs ways → Exact ss rs turns → (res : Result (Option (List ℤ)) AllocError)
@@ -368,3 +385,17 @@ module _ (p q r s : Piece) (a b : Access) where
   reversal_ok w v x y ps qs ss rs ways os turns ts c d e f g h exact turned (Ok point) k =
       reversal_all w v x y ways turns (subst (λ i. Exact i q.places ways) c (subst (λ i. Exact ps i ways) d exact)) (subst (λ i. Exact i r.places turns) e (subst (λ i. Exact ss i turns) f turned)) point
       (subst (λ i. IsLeastPair p.levels (IsReversalAmong i turns p q r s a b) point) g (subst (λ i. IsLeastPair p.levels (IsReversalAmong os i p q r s a b) point) h k))
+
+-- pieces that have the iterators of others have as many
+pub turned_comparable : (w : FourPieces) (xs ys : List ℤ) → IsTurned w.first.now w.second.now w.new_first.now w.new_second.now xs ys → AreComparable w
+turned_comparable w xs ys k = record {
+  first = sym (iters_long w.new_first.now k.first) ∙ ap length k.same_first ∙ iters_long w.first.now xs;
+  second = sym (iters_long w.new_second.now k.second) ∙ ap length k.same_second ∙ iters_long w.second.now ys;
+}
+
+-- both orders
+pub orders_put : (old mid new : Draft) (o t : Order) (p q s : Piece) (i : ℕ) → i ≡ pair_size p q → Narrows old mid (λ z. InOrder o (drop 0 z) (drop p.levels z))
+    → Narrows mid new (λ z. InOrder t (drop i z) (drop (i + s.levels) z)) → Narrows old new (InOrders o t p q s)
+orders_put old mid new o t p q s i e a b =
+    narrowed_twice old mid new (λ z. InOrder o (drop 0 z) (drop p.levels z)) (λ z. InOrder t (drop (pair_size p q) z) (drop (pair_size p q + s.levels) z)) a
+    (subst (λ n. Narrows mid new (λ z. InOrder t (drop n z) (drop (n + s.levels) z))) e b)

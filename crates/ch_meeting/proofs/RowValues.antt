@@ -74,23 +74,23 @@ module _ (f : Form) (coefs : List ℤ) (constant : ℤ) (is : form coefs constan
       times_one l = Rattle.std.proofs.Math.IntN.*ℤ_comm l (pos 1) ∙ one_times l
 
 module _ (f g : Form) (coefs others : List ℤ) (constant second : ℤ) (is : form coefs constant ≡ f) (are : form others second ≡ g) where
-  pub same_value : (m n : ℕ) (k l j : ℤ) (more back c0 c1 c2 c3 c4 c5 : List ℤ) (here there turn again one : ℕ) (r : Made) → more ≡ coefs → back ≡ others → k ≡ neg_ℤ (pos m) → l ≡ pos n
-      → j ≡ neg_ℤ second → SumsTo c0 (λ z. pos 0)
+  pub same_value : (m n : ℕ) (k l j rest : ℤ) (more back c0 c1 c2 c3 c4 c5 : List ℤ) (here there turn again one : ℕ) (r : Made) → more ≡ coefs → back ≡ others → k ≡ neg_ℤ (pos m) → l ≡ pos n
+      → (j +ℤ rest) ≡ (constant -ℤ second) → SumsTo c0 (λ z. pos 0)
       → SumsTo c1 (λ z. dot c0 z +ℤ dot more (drop here z)) → SumsTo c2 (λ z. dot c1 z -ℤ dot back (drop there z)) → SumsTo c3 (λ z. dot c2 z +ℤ (k *ℤ at z turn))
-      → SumsTo c4 (λ z. dot c3 z +ℤ (l *ℤ at z again)) → SumsTo c5 (λ z. dot c4 z +ℤ (j *ℤ at z one)) → IfOk r (λ row. (z : List ℤ) → value row z ≡ constant +ℤ dot c5 z)
+      → SumsTo c4 (λ z. dot c3 z +ℤ (l *ℤ at z again)) → SumsTo c5 (λ z. dot c4 z +ℤ (j *ℤ at z one)) → IfOk r (λ row. (z : List ℤ) → value row z ≡ rest +ℤ dot c5 z)
       → IfOk r (λ row. (z : List ℤ) → at z one ≡ pos 1
       → value row z ≡ (value f (drop here z) -ℤ pos m *ℤ at z turn) -ℤ (value g (drop there z) -ℤ pos n *ℤ at z again))
-  same_value m n k l j more back c0 c1 c2 c3 c4 c5 here there turn again one r e i x y w a b d p q s h =
-      ok_values_at r one (λ z. constant +ℤ dot c5 z)
+  same_value m n k l j rest more back c0 c1 c2 c3 c4 c5 here there turn again one r e i x y w a b d p q s h =
+      ok_values_at r one (λ z. rest +ℤ dot c5 z)
       (λ z. (value f (drop here z) -ℤ pos m *ℤ at z turn) -ℤ (value g (drop there z) -ℤ pos n *ℤ at z again))
       (λ z u. (let t1 = ap (λ t. t *ℤ at z turn) x ∙ neg_times (pos m) (at z turn) in
       let t2 = ap (λ t. t *ℤ at z again) y in
-      let t3 = ap (λ t. j *ℤ t) u ∙ times_one j ∙ w in
+      let t3 = ap (λ t. j *ℤ t) u ∙ times_one j in
       let t4 = ap (λ cs. dot cs (drop here z)) (e ∙ ap (λ g. g.coefs) is) in
       let t5 = ap (λ cs. dot cs (drop there z)) (i ∙ ap (λ g. g.coefs) are) in
       let t6 : constant ≡ f.constant = ap (λ g. g.constant) is in
       let t7 : second ≡ g.constant = ap (λ g. g.constant) are in
-      omega (arith, ints, a z, b z, d z, p z, q z, s z, t1, t2, t3, t4, t5, t6, t7))) h
+      omega (arith, ints, a z, b z, d z, p z, q z, s z, t1, t2, t3, t4, t5, t6, t7, w))) h
     where
       times_one : (l : ℤ) → l *ℤ pos 1 ≡ l
       times_one l = Rattle.std.proofs.Math.IntN.*ℤ_comm l (pos 1) ∙ one_times l

@@ -6,6 +6,8 @@ use Rattle.ch_nest.specs.declared.nest.Access.{Access}
 use Rattle.ch_meeting.specs.declared.cells.Site.{Site}
 use Rattle.ch_meeting.specs.declared.draft.Draft.{Draft}
 use Rattle.ch_meeting.specs.declared.orders.Order.{Order}
+use Rattle.ch_meeting.specs.declared.question.FourPieces.{FourPieces}
+use Rattle.ch_meeting.specs.declared.question.TwoAccesses.{TwoAccesses}
 use Rattle.ch_meeting.specs.Cases.{InOrder, OneOf}
 use Rattle.ch_meeting.specs.Drafts.{Fits, IsDraft}
 use Rattle.ch_meeting.specs.Meeting.{iters_at}
@@ -62,7 +64,7 @@ cells_end p q a b iters =
 -- and their values are in the order
 abbrev pub AreMeetingBy : Order → Piece → Piece → Access → Access → List ℤ → Type 0
 AreMeetingBy o p q a b z =
-    InOrder o (drop 0 z) (drop p.levels z) × AreMeeting p q a b (pair_size p q) z
+    AreMeeting p q a b (pair_size p q) z × InOrder o (drop 0 z) (drop p.levels z)
 
 -- two instances in the order whose accesses name one cell
 pub record IsMeetingBy (o : Order) (p q : Piece) (a b : Access) (xs ys : List ℤ) : Type 0 where
@@ -96,11 +98,10 @@ pub record MeetsBy (o : Order) (p q : Piece) (a b : Access) : Type 0 where
   pub second : List ℤ
   pub meeting : IsMeetingBy o p q a b first second
 
--- the second of the two new pieces comes before the first, and their iterators are those that stand there
-abbrev pub AreTurned : Order → Piece → Piece → ℕ → ℕ → ℕ → List ℤ → Type 0
-AreTurned o r s start first second z =
-    InOrder o (drop start z) (drop (start + s.levels) z) × TiedAt s start second z
-    × TiedAt r (start + s.levels) first z × PairAt s r start z
+-- the two new pieces have the iterators that stand there, the second one's levels standing before those of the first
+abbrev pub AreTurned : Piece → Piece → ℕ → ℕ → ℕ → List ℤ → Type 0
+AreTurned r s start first second z =
+    TiedAt s start second z × TiedAt r (start + s.levels) first z × PairAt s r start z
 
 -- the ranges of all four pieces' variables, and of those that compare two cells
 abbrev pub reversal_boxes : Piece → Piece → Piece → Piece → Access → Access → List Range
@@ -111,13 +112,22 @@ reversal_boxes p q r s a b =
 abbrev pub reversal_iters : Piece → Piece → Piece → Piece → ℕ
 reversal_iters p q r s = pair_size p q + pair_size s r
 
--- the first two pieces meet in the one order, and the other two are turned in the other
-abbrev pub AreReversal : Order → Order → Piece → Piece → Piece → Piece → Access → Access → List ℤ → Type 0
-AreReversal o t p q r s a b z =
-    InOrder o (drop 0 z) (drop p.levels z)
-    × AreMeeting p q a b (reversal_iters p q r s) z
-    × AreTurned t r s (pair_size p q) (reversal_iters p q r s)
+-- the first two pieces meet, and the other two have their iterators
+abbrev pub AreReversal : Piece → Piece → Piece → Piece → Access → Access → List ℤ → Type 0
+AreReversal p q r s a b z =
+    AreMeeting p q a b (reversal_iters p q r s) z
+    × AreTurned r s (pair_size p q) (reversal_iters p q r s)
     (reversal_iters p q r s + length p.origin) z
+
+-- the values of the first two are in the one order, and those of the new second and the new first in the other
+abbrev pub InOrders : Order → Order → Piece → Piece → Piece → List ℤ → Type 0
+InOrders o t p q s z =
+    InOrder o (drop 0 z) (drop p.levels z)
+    × InOrder t (drop (pair_size p q) z) (drop (pair_size p q + s.levels) z)
+
+-- both at once
+abbrev pub AreReversalBy : Order → Order → Piece → Piece → Piece → Piece → Access → Access → List ℤ → Type 0
+AreReversalBy o t p q r s a b z = AreReversal p q r s a b z × InOrders o t p q s z
 
 -- a pair that meets in the one order and is turned in the other
 abbrev pub IsReversalBy : Order → Order → Piece → Piece → Piece → Piece → Access → Access → List ℤ → List ℤ → Type 0
@@ -146,3 +156,33 @@ IsReversalAmong orders turns p q r s a b xs ys =
 -- the order has that level, and some instances in it meet
 abbrev pub MeetsByAt : ℕ → Piece → Piece → Access → Access → Order → Type 0
 MeetsByAt level p q a b o = (level_by o.less o.equal ≡ level) × MeetsBy o p q a b
+
+-- the points that fit are those at which the two accesses name one cell
+abbrev pub AsksMeeting : Piece → Piece → TwoAccesses → Draft → Type 0
+AsksMeeting p q c d = Asks d (meeting_boxes p q c.first.now c.second.now)
+    (AreMeeting p q c.first.now c.second.now (pair_size p q))
+
+-- The same of four pieces and two accesses.
+
+abbrev pub boxes_of : FourPieces → TwoAccesses → List Range
+boxes_of w c = reversal_boxes w.first.now w.second.now w.new_first.now w.new_second.now
+    c.first.now c.second.now
+
+abbrev pub AreReversalOf : FourPieces → TwoAccesses → List ℤ → Type 0
+AreReversalOf w c = AreReversal w.first.now w.second.now w.new_first.now w.new_second.now
+    c.first.now c.second.now
+
+abbrev pub AreInOrders : Order → Order → FourPieces → List ℤ → Type 0
+AreInOrders o t w = InOrders o t w.first.now w.second.now w.new_second.now
+
+abbrev pub IsReversalByOf : Order → Order → FourPieces → TwoAccesses → List ℤ → List ℤ → Type 0
+IsReversalByOf o t w c = IsReversalBy o t w.first.now w.second.now w.new_first.now w.new_second.now
+    c.first.now c.second.now
+
+abbrev pub IsTurnedAmongOf : Order → List Order → FourPieces → TwoAccesses → List ℤ → List ℤ → Type 0
+IsTurnedAmongOf o turns w c = IsTurnedAmong o turns w.first.now w.second.now w.new_first.now
+    w.new_second.now c.first.now c.second.now
+
+abbrev pub IsReversalAmongOf : List Order → List Order → FourPieces → TwoAccesses → List ℤ → List ℤ → Type 0
+IsReversalAmongOf orders turns w c = IsReversalAmong orders turns w.first.now w.second.now
+    w.new_first.now w.new_second.now c.first.now c.second.now

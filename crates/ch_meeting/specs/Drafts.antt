@@ -1,7 +1,8 @@
 -- A system while it is made, and what its rows say of points.
-use Rattle.std.specs.Prelude.{◌≡◌, ◌≤◌, ◌↔◌, ℕ, ℤ, List, length, take, drop, IsTrue, Option, Some, None}
+use Rattle.std.specs.Prelude.{◌≡◌, ◌≤◌, ◌↔◌, ℕ, ℤ, List, length, take, drop, IsTrue, Option, Some, None, ◌++◌}
 use Rattle.std.specs.List.{All}
-use Rattle.ch_affine.specs.Rows.{IsBox, all_hold, lies_in}
+use Rattle.ch_affine.specs.Form.{Form}
+use Rattle.ch_affine.specs.Rows.{IsBox, Rows, all_hold, lies_in, system}
 use Rattle.ch_meeting.specs.declared.draft.Draft.{Draft}
 use Rattle.ch_space.specs.Following.{UpTo}
 
@@ -21,6 +22,13 @@ pub record Narrows (old new : Draft) (P : List ℤ → Type 0) : Type 0 where
   pub rows : All (λ f. length f.coefs ≡ length old.boxes) new.rows
   pub exact : (z : List ℤ) → IsTrue (lies_in old.boxes z)
       → IsTrue (all_hold new.rows z) ↔ (IsTrue (all_hold old.rows z) × P z)
+  -- the old rows stand before the others
+  pub added : List Form
+  pub behind : new.rows ≡ old.rows ++ added
+
+-- the system of the ranges and rows
+abbrev pub system_of : Draft → Rows
+system_of d = system (length d.boxes) d.rows d.boxes
 
 -- the point lies in the ranges, and all rows hold there
 pub record Fits (d : Draft) (z : List ℤ) : Type 0 where
@@ -31,3 +39,7 @@ pub record Fits (d : Draft) (z : List ℤ) : Type 0 where
 abbrev pub IsLeastFit : Draft → Option (List ℤ) → Type 0
 IsLeastFit d None = (z : List ℤ) → Fits d z → ⊥
 IsLeastFit d (Some point) = Fits d point × ((z : List ℤ) → Fits d z → UpTo point z)
+
+-- no point fits
+abbrev pub NoneFits : Draft → Type 0
+NoneFits d = (z : List ℤ) → Fits d z → ⊥

@@ -3,6 +3,8 @@ use Rattle.std.specs.Prelude.{◌≡◌, ◌+◌, ◌≤◌, ◌^◌, ℕ, suc, 
 use Rattle.std.specs.List.{All}
 use Rattle.std.specs.Ordering.{int_eq}
 use Rattle.ch_affine.specs.Affine.{IsAtMost, value}
+use Rattle.ch_meeting.specs.declared.question.FourPieces.{FourPieces}
+use Rattle.ch_meeting.specs.declared.question.TwoAccesses.{TwoAccesses}
 use Rattle.ch_nest.specs.declared.nest.Access.{Access}
 use Rattle.ch_space.specs.declared.piece.Piece.{Piece}
 use Rattle.ch_space.specs.Following.{UpTo}
@@ -84,3 +86,31 @@ pub record HaveCommon (p q : Piece) : Type 0 where
   pub is_first : In first (instances p)
   pub is_second : In second (instances q)
   pub same : iters_at p first ≡ iters_at q second
+
+-- What is asked of four pieces and two accesses.
+
+-- what a space keeps of all four
+pub record ArePlain (w : FourPieces) : Type 0 where
+  pub first : IsPlain w.first.now
+  pub second : IsPlain w.second.now
+  pub new_first : IsPlain w.new_first.now
+  pub new_second : IsPlain w.new_second.now
+
+-- what it keeps of an access of the first piece's body and one of the second's
+pub record AreAccessesOf (p q : Piece) (c : TwoAccesses) : Type 0 where
+  pub first : IsAccessOf p c.first.now
+  pub second : IsAccessOf q c.second.now
+
+-- both name one array with equally many subscripts
+pub record AreAlike (c : TwoAccesses) : Type 0 where
+  pub array : c.first.now.array ≡ c.second.now.array
+  pub subscripts : length c.first.now.subs ≡ length c.second.now.subs
+
+-- the new pieces have as many iterators as the others
+pub record AreComparable (w : FourPieces) : Type 0 where
+  pub first : length w.new_first.now.origin ≡ length w.first.now.origin
+  pub second : length w.new_second.now.origin ≡ length w.second.now.origin
+
+abbrev pub IsReversalOf : FourPieces → TwoAccesses → List ℤ → List ℤ → Type 0
+IsReversalOf w c = IsReversal w.first.now w.second.now w.new_first.now w.new_second.now
+    c.first.now c.second.now

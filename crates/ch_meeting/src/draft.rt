@@ -1,15 +1,16 @@
-//! A system of rows over ranges while it is made, and its least point.
+//! A system of rows over ranges while it is made, and what the solver says of it.
 
-ghost use Rattle.std.specs.Prelude.{◌≡◌, ◌≤◌, ◌≤ℤ◌, ◌+◌, ◌^◌, ◌+ℤ◌, ◌-ℤ◌, ◌*ℤ◌, ◌++◌, [], neg_ℤ, pos, ℤ, List, length, map, drop, IfOk, OnOk};
+ghost use Rattle.std.specs.Prelude.{◌≡◌, ◌≤◌, ◌≤ℤ◌, ◌+◌, ◌^◌, ◌+ℤ◌, ◌-ℤ◌, ◌*ℤ◌, ◌++◌, [], neg_ℤ, pos, ℤ, List, length, map, drop, take, IsTrue, IfOk, OnOk};
 ghost use Rattle.std.specs.List.{All};
 ghost use Rattle.ch_affine.specs.Affine.{IsAtMost, dot, form, value};
-ghost use Rattle.ch_meeting.specs.Drafts.{IsDraft, IsLeastFit, Narrows};
+ghost use Rattle.ch_meeting.specs.Drafts.{IsDraft, IsLeastFit, Narrows, NoneFits, system_of};
 ghost use Rattle.ch_poly.specs.Boxes.{at};
 ghost use Rattle.ch_space.specs.Built.{padded};
 
 use ch_affine::{Aff, List, Range, System};
-use ch_poly::least_point;
+use ch_poly::{excluded, least_point};
 use std::alloc::{AllocError, Global};
+use std::mem::replace;
 
 /// Ranges of variables, and rows over them.
 #[derive(Debug, Drop)]
@@ -156,16 +157,61 @@ impl Draft {
         self.rows.push(other)
     }
 
-    /// The least point. All its variables count, from the first on.
-    pub(crate) fn least(self, alloc: Global) -> Result<Option<List<i64>>, AllocError>
-        requires { IsDraft self }
-        ensures { IfOk result (λ point. IsLeastFit self point) }
+    /// The system of the ranges and rows, which the draft is left without.
+    fn lend(&mut self, alloc: Global) -> System
+        requires { IsDraft self.old }
+        ensures { result ≡ system_of self.old }
     {
-        let system = System {
-            vars: self.boxes.len() as u32,
-            rows: self.rows,
-            boxes: self.boxes,
-        };
-        least_point(alloc, &system)
+        let rows = replace(&mut self.rows, List::new(alloc));
+        let boxes = replace(&mut self.boxes, List::new(alloc));
+        System {
+            vars: boxes.len() as u32,
+            rows,
+            boxes,
+        }
+    }
+
+    /// Takes the ranges and rows of a system back.
+    fn take_back(&mut self, system: System)
+        ensures boxes { self.new.boxes ≡ system.boxes }
+        ensures rows { self.new.rows ≡ system.rows }
+    {
+        let System { rows, boxes, .. } = system;
+        self.rows = rows;
+        self.boxes = boxes;
+    }
+
+    /// The least point. All its variables count, from the first on.
+    pub(crate) fn least(&mut self, alloc: Global) -> Result<Option<List<i64>>, AllocError>
+        requires { IsDraft self.old }
+        ensures draft { OnOk result (self.new ≡ self.old) }
+        ensures least { IfOk result (λ point. IsLeastFit self.old point) }
+    {
+        let system = self.lend(alloc);
+        let point = least_point(alloc, &system)?;
+        self.take_back(system);
+        Ok(point)
+    }
+
+    /// Whether one row, or two, already tell that no point fits.
+    pub(crate) fn is_excluded(&mut self, alloc: Global) -> bool
+        requires { IsDraft self.old }
+        ensures draft { self.new ≡ self.old }
+        ensures none { IsTrue result → NoneFits self.old }
+    {
+        let system = self.lend(alloc);
+        let excluded = excluded(&system).is_some();
+        self.take_back(system);
+        excluded
+    }
+
+    /// Forgets the rows behind the first `count`.
+    pub(crate) fn keep_rows(&mut self, count: usize)
+        ensures boxes { self.new.boxes ≡ self.old.boxes }
+        ensures rows { self.new.rows ≡ take count self.old.rows }
+    {
+        'spare: while self.rows.len() > count {
+            let _ = self.rows.pop();
+        }
     }
 }

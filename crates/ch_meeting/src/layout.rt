@@ -4,8 +4,9 @@ ghost use Rattle.std.specs.Prelude.{◌≡◌, ◌≤◌, ◌++◌, ◌∷◌, [
 ghost use Rattle.ch_meeting.specs.Placed.{cell_boxes, only, pair_boxes, turn_range, wide, wides};
 ghost use Rattle.ch_space.specs.Keeps.{IsWhole};
 
+use crate::question::TwoAccesses;
 use ch_affine::{List, Range};
-use ch_nest::{Access, Sub};
+use ch_nest::Sub;
 use ch_space::Piece;
 use std::alloc::AllocError;
 
@@ -86,15 +87,14 @@ pub(crate) fn push_cells(
     boxes: &mut List<Range>,
     iters: usize,
     others: usize,
-    access: &Access,
-    other: &Access,
+    accesses: &TwoAccesses,
 ) -> Result<(), AllocError>
     ensures { OnOk result (boxes.new ≡ boxes.old
-        ++ cell_boxes iters others access.now other.now) }
+        ++ cell_boxes iters others accesses.now.first.now accesses.now.second.now) }
 {
     push_wides(boxes, iters)?;
     push_wides(boxes, others)?;
-    push_turns(boxes, access.subs.as_slice())?;
-    push_turns(boxes, other.subs.as_slice())?;
+    push_turns(boxes, accesses.first.subs.as_slice())?;
+    push_turns(boxes, accesses.second.subs.as_slice())?;
     boxes.push(Range { low: 1, high: 1 })
 }

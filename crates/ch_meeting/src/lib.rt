@@ -3,10 +3,16 @@
 #![tactic(auto)]
 
 mod cells;
+mod common;
 mod draft;
 mod layout;
+mod meeting;
 mod orders;
 mod placing;
-mod queries;
+mod question;
+mod reversal;
 
-pub use queries::{have_common, least_reversal, meets_at};
+pub use common::have_common;
+pub use meeting::meets_at;
+pub use question::{FourPieces, TwoAccesses};
+pub use reversal::least_reversal;

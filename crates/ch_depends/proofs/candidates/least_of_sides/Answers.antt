@@ -21,4 +21,4 @@ returns c =
     c.loop-r.best c.loop-r-test.false c.loop-r.invariant
 
 pub returns-then-not-branch : goal.returns-then-not-branch
-returns-then-not-branch c = none_reversed c.args.from.now c.args.to.now c.in_ok-depend.field-0 c.in_ok-depend.ensures c.if-not-branch.true
+returns-then-not-branch c = none_reversed c.args.from.now c.args.to.now c.in_ok-may_depend.field-0 c.in_ok-may_depend.ensures c.if-not-branch.true

@@ -5,9 +5,11 @@ use Rattle.ch_depends.proofs.Bests.{item_all}
 use Rattle.ch_depends.proofs.Gathered.{no_by, none_all, none_more, some_here, yes_by}
 use Rattle.ch_depends.proofs.levels.read_meets.Goals as goal
 
-pub meets_at-requires-clause-access : goal.meets_at-requires-clause-access
-meets_at-requires-clause-access c =
-    item_all (λ a. a.now) c.args.reads.now c.args.reads.now refl c.loop-access.access-index c.access-item.result (IsAccessOf c.args.p.now) c.requires.reads c.loop-access-test.true c.access-item.is
+pub meets_at-requires-clause-accesses : goal.meets_at-requires-clause-accesses
+meets_at-requires-clause-accesses c = record {
+  first = item_all (λ a. a.now) c.args.reads.now c.args.reads.now refl c.loop-access.access-index c.access-item.result (IsAccessOf c.args.p.now) c.requires.reads c.loop-access-test.true c.access-item.is;
+  second = c.requires.other;
+}
 
 pub returns-then-branch : goal.returns-then-branch
 returns-then-branch c =

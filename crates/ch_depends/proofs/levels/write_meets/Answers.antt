@@ -5,9 +5,11 @@ use Rattle.ch_depends.proofs.Bests.{item_all}
 use Rattle.ch_depends.proofs.Gathered.{no_by, none_all, none_more, some_here, yes_by}
 use Rattle.ch_depends.proofs.levels.write_meets.Goals as goal
 
-pub meets_at-requires-clause-other : goal.meets_at-requires-clause-other
-meets_at-requires-clause-other c =
-    item_all (λ a. a.now) c.args.others.now c.args.others.now refl c.loop-other.other-index c.other-item.result (IsAccessOf c.args.q.now) c.requires.others c.loop-other-test.true c.other-item.is
+pub meets_at-requires-clause-accesses : goal.meets_at-requires-clause-accesses
+meets_at-requires-clause-accesses c = record {
+  first = c.requires.access;
+  second = item_all (λ a. a.now) c.args.others.now c.args.others.now refl c.loop-other.other-index c.other-item.result (IsAccessOf c.args.q.now) c.requires.others c.loop-other-test.true c.other-item.is;
+}
 
 pub returns-then-branch : goal.returns-then-branch
 returns-then-branch c =

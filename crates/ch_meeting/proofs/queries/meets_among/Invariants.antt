@@ -1,7 +1,0 @@
-use Rattle.std.proofs.Common.{take}
-use Rattle.ch_meeting.specs.Asked.{MeetsByAt}
-use Rattle.ch_meeting.specs.Cases.{OneOf}
-use Rattle.ch_meeting.proofs.queries.meets_among.Given as goal
-
-abbrev pub invariant-loop-order : goal.invariant-loop-order
-invariant-loop-order l = OneOf (MeetsByAt l.level l.first l.second l.access l.other) (take l.order-index l.orders) → ⊥
