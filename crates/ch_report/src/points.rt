@@ -5,7 +5,7 @@ ghost use Rattle.ch_grid.specs.Grid.{sizes};
 ghost use Rattle.ch_grid.specs.Points.{is_point};
 ghost use Rattle.ch_print.specs.Lists.{behind, separated};
 ghost use Rattle.ch_print.specs.Numbers.{integer_text};
-ghost use Rattle.ch_report.specs.Points.{point_text};
+ghost use Rattle.ch_report.specs.Points.{point_text, values_text};
 
 use ch_affine::Text;
 use ch_constrain::values_at;
@@ -25,7 +25,7 @@ fn put_more(out: &mut Text, values: &[i64]) -> Result<(), AllocError>
 }
 
 /// Adds values with commas between them.
-fn put_values(out: &mut Text, values: &[i64]) -> Result<(), AllocError>
+fn put_listed(out: &mut Text, values: &[i64]) -> Result<(), AllocError>
     ensures { OnOk result (out.new ≡ out.old ++ separated (codes ",") integer_text values.now) }
 {
     let Some((first, rest)) = values.split_first() else {
@@ -35,9 +35,17 @@ fn put_values(out: &mut Text, values: &[i64]) -> Result<(), AllocError>
     put_more(out, rest)
 }
 
-/// Adds a point of a grid by the parameters' values, as `(3,4)`, and `()` where there are no parameters. The point has an
-/// index for each parameter.
-#[tactic(auto, unfolding(crate::specs::Points::point_text))]
+/// Adds the values of parameters, as `(3,4)`, and `()` where there are none.
+#[tactic(auto, unfolding(crate::specs::Points::values_text))]
+pub fn put_values(out: &mut Text, values: &[i64]) -> Result<(), AllocError>
+    ensures { OnOk result (out.new ≡ out.old ++ values_text values.now) }
+{
+    out.append(b"(")?;
+    put_listed(out, values)?;
+    out.append(b")")
+}
+
+/// Adds a point of a grid by the parameters' values. The point has an index for each parameter.
 pub fn put_point(
     alloc: Global,
     out: &mut Text,
@@ -48,7 +56,5 @@ pub fn put_point(
     ensures { OnOk result (out.new ≡ out.old ++ point_text grid.now.params point.now) }
 {
     let values = values_at(alloc, grid, point)?;
-    out.append(b"(")?;
-    put_values(out, values.as_slice())?;
-    out.append(b")")
+    put_values(out, values.as_slice())
 }
