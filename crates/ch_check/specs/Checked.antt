@@ -59,8 +59,11 @@ said_text arrays (Ok told) = legal_text told
 said_text arrays (Err refused) = refusal_text arrays refused
 
 -- as `session s at (3,4) legal pieces 2 instances 8 cost 42`
-unfoldable pub session_line : List ℕ → List ℤ → List ArrayDecl → Result Told Refusal → List ℕ
-session_line name numbers arrays told = codes "session " ++ name ++ codes " at " ++ values_text numbers ++ codes " " ++ said_text arrays told ++ codes "\n"
+abbrev pub front_text : List ℕ → List ℤ → List ℕ
+front_text name numbers = codes "session " ++ name ++ codes " at " ++ values_text numbers ++ codes " "
+
+abbrev pub session_line : List ℕ → List ℤ → List ArrayDecl → Result Told Refusal → List ℕ
+session_line name numbers arrays told = front_text name numbers ++ said_text arrays told ++ codes "\n"
 
 abbrev pub check_line : DeckParts → Option (List ℤ) → ℕ → Tuned → List ℕ
 check_line deck at k s = session_line s.name (values_of at s.params) (nest_of deck s).arrays (said deck at k s)

@@ -1,7 +1,6 @@
 //! The line of a session.
-ghost use Rattle.std.specs.Prelude.{◌≡◌, ◌++◌, OnOk};
-ghost use Rattle.ch_check.specs.Checked.{legal_text, session_line};
-ghost use Rattle.std.specs.Prelude.{Err, Ok};
+ghost use Rattle.std.specs.Prelude.{◌≡◌, ◌++◌, Err, Ok, OnOk};
+ghost use Rattle.ch_check.specs.Checked.{front_text, legal_text, session_line};
 
 use ch_affine::Text;
 use ch_judge::Told;
