@@ -10,7 +10,6 @@ use Rattle.ch_depends.specs.Depends.{IsDependence, pair_of}
 use Rattle.ch_depends.specs.Sought.{IsBest, IsMet, IsPaired, IsSide, Lists, MetBefore, Meets, Reversed, SomeOf, level_at}
 use Rattle.ch_depends.proofs.Dependences.{dependence, few_levels, in_sides, met}
 use Rattle.ch_depends.proofs.Listing.{met_push, met_skip}
-use Rattle.ch_depends.proofs.Overtaken.{first_in, found, reversed_is, second_in}
 use Rattle.ch_order.specs.Legal.{AreAmong}
 use Rattle.ch_space.specs.declared.piece.Piece.{Piece}
 use Rattle.ch_space.specs.Keeps.{AreApart}
@@ -68,34 +67,3 @@ exactly list ps all sides items (Ok levels) apart e f g i h = λ t.
       λ d. h.all t (met ps apart items pieces t (subst (λ z. IsDependence z t) (sym e) d)),
     )
 exactly list ps all sides items (Err x) apart e f g i h = tt
-
--- the least pair
-
-module _ (old new : List Element) (olds news allo alln : List Piece) (sides items : List Side) (ao : AreApart olds) (an : AreApart news) (differ : identities_differ (listed news) ≡ true)
-    (eo : listed olds ≡ old) (en : listed news ≡ new) (kept : AreAmong old new) (fo : allo ≡ olds) (fn : alln ≡ news) (pieces : map (λ s. s.piece.now) sides ≡ allo) (paired : All (IsPaired alln) sides) (same : items ≡ sides)
-    (best : Option Candidate) (h : IsBest (SomeOf items (λ s. SomeOf items (Reversed s))) best) where
-  among : AreAmong (listed olds) (listed news)
-  among = subst (λ z. AreAmong z (listed news)) (sym eo) (subst (AreAmong old) (sym en) kept)
-
-  of_olds : map (λ s. s.piece.now) items ≡ olds
-  of_olds = ap (map (λ s. s.piece.now)) same ∙ pieces ∙ fo
-
-  of_news : All (IsPaired news) items
-  of_news = subst (All (IsPaired news)) (sym same) (subst (λ z. All (IsPaired z) sides) fn paired)
-
-  answered : found best ≡ reversed old new
-  answered = reversed_is olds news ao an differ among items of_olds of_news best h ∙ ap (λ z. reversed z (listed news)) eo ∙ ap (reversed old) en
-
-  pub none_answered : best ≡ None → None ≡ pair_of (reversed old new)
-  none_answered e = ap (λ z. pair_of (found z)) (sym e) ∙ ap pair_of answered
-
-  pub some_answered : (c : Candidate) (r : Result (Option Pair) AllocError) → best ≡ Some c → IfOk r (λ p. p ≡ pair_of (overtaken true (step c.first) (step c.second) (conflict (step c.first) (step c.second))))
-      → IfOk r (λ p. p ≡ pair_of (reversed old new))
-  some_answered c (Ok p) e q = q ∙ ap (λ z. pair_of (found z)) (sym e) ∙ ap pair_of answered
-  some_answered c (Err x) e q = tt
-
-  pub first_listed : (c : Candidate) → best ≡ Some c → In c.first (listed olds)
-  first_listed c e = first_in olds news ao an differ among items of_olds of_news c (subst (IsBest (SomeOf items (λ s. SomeOf items (Reversed s)))) e h)
-
-  pub second_listed : (c : Candidate) → best ≡ Some c → In c.second (listed olds)
-  second_listed c e = second_in olds news ao an differ among items of_olds of_news c (subst (IsBest (SomeOf items (λ s. SomeOf items (Reversed s)))) e h)

@@ -3,11 +3,12 @@ use Rattle.std.proofs.Common.{◌≡◌, refl, sym, ap, ap₂, ◌∙◌, subst,
 use Rattle.std.specs.Bool.{IsTrue}
 use Rattle.std.specs.List.{All}
 use Rattle.std.specs.declared.alloc.AllocError.{AllocError}
-use Rattle.std.proofs.lemmas.Bool.{false≢true}
-use Rattle.std.proofs.lemmas.List.{get_or-map, length-map, map-append, map_more, take_all, take_more}
+use Rattle.std.proofs.Math.Seq.{get_or-append_seam}
+use Rattle.std.proofs.lemmas.Bool.{cases_lt, false≢true}
+use Rattle.std.proofs.lemmas.List.{get_or-map, get_or_append_left, length-append, length-map, map-append, map_more, take_all, take_more}
 use Rattle.std.proofs.lemmas.List.Elements.{All-nil, All-push}
 use Rattle.ch_depends.specs.declared.sides.Side.{Side}
-use Rattle.ch_depends.specs.Sought.{IsSide}
+use Rattle.ch_depends.specs.Sought.{AreNumbered, IsSide}
 use Rattle.ch_meeting.specs.Meeting.{IsAccessOf, IsPlain}
 use Rattle.ch_nest.specs.declared.nest.Access.{Access}
 use Rattle.ch_space.specs.declared.piece.Piece.{Piece}
@@ -159,3 +160,14 @@ pub slice_at : {X : Type 0} (xs : List X) (k : ℕ) (x : X) → k < length xs �
 slice_at [] k x l e = absurd (omega arith)
 slice_at (y ∷ ys) zero x l e = ap (λ z. Some z) (sym e)
 slice_at (y ∷ ys) (suc k) x l e = slice_at ys k x (omega arith) e
+
+pub numbered_more : (xs new : List Side) (x : Side) → new ≡ xs ++ x ∷ [] → AreNumbered xs → x.number ≡ length xs → AreNumbered new
+numbered_more xs new x e h n = subst AreNumbered (sym e) (λ k d l. elim (cases_lt k (length xs)) as (λ _. (get_or (xs ++ x ∷ []) k d).number ≡ k) [
+  | inl i ↦ ap (λ s. s.number) (get_or_append_left xs (x ∷ []) d k i) ∙ h k d i
+  | inr i ↦
+      let last : k ≡ length xs = below_end k l i in
+      ap (λ j. (get_or (xs ++ x ∷ []) j d).number) last ∙ ap (λ s. s.number) (get_or-append_seam xs x [] d) ∙ n ∙ sym last
+])
+  where
+    below_end : (k : ℕ) → k < length (xs ++ x ∷ []) → length xs ≤ k → k ≡ length xs
+    below_end k l i = let m = length-append xs (x ∷ []) in omega arith

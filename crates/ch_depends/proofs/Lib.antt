@@ -8,3 +8,6 @@ pub mod Points
 pub mod Gathered
 pub mod Answering
 pub mod Unrelated
+pub mod BySteps
+pub mod FreePieces
+pub mod Freed

@@ -12,8 +12,6 @@ use Rattle.ch_meeting.specs.Meeting.{IsMeeting, IsTurned, iters_at, vector_at}
 use Rattle.ch_order.specs.Legal.{AreAmong}
 use Rattle.ch_order.proofs.Before.{before_from, from_before}
 use Rattle.ch_order.proofs.Kept.{one_identity}
-use Rattle.ch_order.proofs.Least.{IsLeast, least_is, none_is}
-use Rattle.ch_order.proofs.Least as least
 use Rattle.ch_order.proofs.Steps.{same_identity_self}
 use Rattle.ch_space.specs.declared.piece.Piece.{Piece}
 use Rattle.ch_space.specs.Keeps.{AreApart}
@@ -31,29 +29,12 @@ use Rattle.ch_timed.specs.Order.{Pair, is_before, overtaken}
 use Rattle.ch_timed.specs.Timed.{Step, identities_differ, same_identity, same_step, step}
 use Rattle.ch_timed.proofs.Orders.{IsAscending, in_map, map_in, not_both, not_itself}
 
--- the answer for a candidate
-abbrev pub found : Option Candidate → Option (Pair Step Cell)
-found None = None
-found (Some c) = overtaken true (step c.first) (step c.second) (conflict (step c.first) (step c.second))
-
-overtaken_none : (t : Bool) (a b : Step) (o : Option Cell) → (t ≡ true → o ≢ None → ⊥) → overtaken t a b o ≡ None
-overtaken_none true a b None h = refl
-overtaken_none true a b (Some c) h = absurd (h refl (λ e. cc))
-overtaken_none false a b o h = refl
-
-some_pair : (a b : Step) (o : Option Cell) → o ≢ None → (p : Pair Step Cell) × (overtaken true a b o ≡ Some p)
-some_pair a b None h = absurd (h refl)
-some_pair a b (Some c) h = (record { first = a; second = b; cell = c }, refl)
-
 identity_by : (a b : Identity) → a.label ≡ b.label → a.iters ≡ b.iters → a ≡ b
 identity_by a b e f = λ i. record { label = e i; iters = f i }
 
 module _ (olds news : List Piece) (old_apart : AreApart olds) (new_apart : AreApart news) (differ : identities_differ (listed news) ≡ true) (kept : AreAmong (listed olds) (listed news)) where
   up_new : IsAscending (λ e. e.vector) (listed news)
   up_new = listed_ascends news new_apart
-
-  up_old : IsAscending (λ e. e.vector) (listed olds)
-  up_old = listed_ascends olds old_apart
 
   in_old : (p : Piece) (xs : List ℤ) → In p olds → In xs (instances p) → In (element_at p xs) (listed olds)
   in_old p xs i j = listed_in olds p (element_at p xs) i (map_in (element_at p) (instances p) xs j)
@@ -223,42 +204,14 @@ module _ (olds news : List Piece) (old_apart : AreApart olds) (new_apart : AreAp
         (at_sides s.side t.side s.values t.values s.is_side t.is_side s.is_instance t.is_instance
         (subst (λ z. IsReversible z (element_at t.side.piece.now t.values)) (sym s.is) (subst (IsReversible e) (sym t.is) h))))
 
-    none_pair : (e f : Element) → (AnyReversed e f → ⊥) → In e (listed olds) → In f (listed olds) → slice_cmp int_cmp e.vector f.vector ≡ Less → least.pair_of (listed news) e f ≡ None
-    none_pair e f n i j l =
-        overtaken_none (is_before same_step (step f) (step e) (map step (listed news))) (step e) (step f) (conflict (step e) (step f))
-        (λ b c. n (any_reversed e f (record { first_in = i; second_in = j; earlier = l; before = b; conflicting = c })))
-
     abbrev itself : List ℤ → List ℤ
     itself v = v
 
-    not_earlier : (c : Candidate) (e f : Element) → slice_cmp int_cmp e.vector c.first.vector ≡ Less → IsUpTo c e f → ⊥
+    pub not_earlier : (c : Candidate) (e f : Element) → slice_cmp int_cmp e.vector c.first.vector ≡ Less → IsUpTo c e f → ⊥
     not_earlier c e f l (inl m) = not_both itself e.vector c.first.vector l m
     not_earlier c e f l (inr m) = not_itself itself e.vector (subst (λ z. slice_cmp int_cmp e.vector z ≡ Less) m.0 l)
 
-    not_second : (c : Candidate) (f : Element) → slice_cmp int_cmp f.vector c.second.vector ≡ Less → IsUpTo c c.first f → ⊥
+    pub not_second : (c : Candidate) (f : Element) → slice_cmp int_cmp f.vector c.second.vector ≡ Less → IsUpTo c c.first f → ⊥
     not_second c f l (inl m) = not_itself itself c.first.vector m
     not_second c f l (inr (h, inl m)) = not_itself itself f.vector (subst (λ z. slice_cmp int_cmp f.vector z ≡ Less) m l)
     not_second c f l (inr (h, inr m)) = not_both itself f.vector c.second.vector l m
-
-    pub reversed_is : (c : Option Candidate) → IsBest AnyReversed c → found c ≡ reversed (listed olds) (listed news)
-    reversed_is None h = sym (none_is (listed olds) (listed news) up_old (λ e f i j l. none_pair e f (h e f) i j l))
-    reversed_is (Some c) h =
-        let r : IsReversible c.first c.second = reversible c.first c.second h.0 in
-        let p = some_pair (step c.first) (step c.second) (conflict (step c.first) (step c.second)) r.conflicting in
-        let there : least.pair_of (listed news) c.first c.second ≡ Some p.0 =
-        ap (λ t. overtaken t (step c.first) (step c.second) (conflict (step c.first) (step c.second))) r.before ∙ p.1 in
-        let smallest : IsLeast (listed olds) (listed news) c.first c.second = record {
-          first_in = r.first_in;
-          second_in = r.second_in;
-          apart = r.earlier;
-          no_first = λ e f i j l k. none_pair e f (λ a. not_earlier c e f k (h.1 e f a)) i j l;
-          no_second = λ f j l k. none_pair c.first f (λ a. not_second c f k (h.1 c.first f a)) r.first_in j l;
-        } in
-        p.1 ∙ sym (least_is (listed olds) (listed news) c.first c.second p.0 up_old smallest there)
-
-    -- both elements of a candidate are in the list
-    pub first_in : (c : Candidate) → IsBest AnyReversed (Some c) → In c.first (listed olds)
-    first_in c h = (reversible c.first c.second h.0).first_in
-
-    pub second_in : (c : Candidate) → IsBest AnyReversed (Some c) → In c.second (listed olds)
-    second_in c h = (reversible c.first c.second h.0).second_in

@@ -1,7 +1,7 @@
 -- What the search for the least reversed pair and for dependent pieces looks for.
-use Rattle.std.specs.Prelude.{◌≡◌, ◌^◌, ℕ, ℤ, Bool, true, false, Option, Some, None, List, length, map, slice_get}
+use Rattle.std.specs.Prelude.{◌≡◌, ◌^◌, ◌<◌, ◌&&◌, ◌||◌, nat_eq, slice_index_or, ℕ, ℤ, Bool, true, false, Option, Some, None, List, length, map, slice_get}
 use Rattle.std.proofs.Common.{◌⊎◌}
-use Rattle.std.specs.List.{All}
+use Rattle.std.specs.List.{All, list_any}
 use Rattle.std.specs.Ordering.{int_cmp, is_lt, ordering_then}
 use Rattle.std.specs.declared.cmp.Ordering.TheVariants.{Less}
 use Rattle.std.specs.declared.cmp.Ordering.{Ordering}
@@ -11,6 +11,7 @@ use Rattle.ch_depends.specs.declared.answers.Level.{Level}
 use Rattle.ch_depends.specs.declared.candidates.Candidate.{Candidate}
 use Rattle.ch_depends.specs.declared.sides.Side.{Side}
 use Rattle.ch_depends.specs.Depends.{Ascends, Precedes}
+use Rattle.ch_depends.specs.declared.answers.PiecePair.{PiecePair}
 use Rattle.ch_meeting.specs.Meeting.{HaveCommon, IsAccessOf, IsPlain, IsReversal, MeetsAt}
 use Rattle.ch_nest.specs.declared.nest.Access.{Access}
 use Rattle.ch_nest.specs.declared.nest.Body.{Body}
@@ -137,3 +138,18 @@ level_at from to level = record { from = from; to = to; level = level }
 -- a triple of the sides that precedes this one
 abbrev pub MetBefore : List Side → ℕ → ℕ → ℕ → Level → Type 0
 MetBefore sides from to level t = IsMet sides t × Precedes t (level_at from to level)
+
+-- each side has its number in the list
+abbrev pub AreNumbered : List Side → Type 0
+AreNumbered sides = (k : ℕ) (d : Side) → k < length sides → (slice_index_or sides k d).number ≡ k
+
+-- they are the two pieces, in either order
+abbrev pub is_pair : ℕ → ℕ → PiecePair → Bool
+is_pair i j p = (nat_eq p.one i && nat_eq p.other j) || (nat_eq p.other i && nat_eq p.one j)
+
+abbrev pub is_listed : List PiecePair → ℕ → ℕ → Bool
+is_listed free i j = list_any (is_pair i j) free
+
+-- elements of two sides that are no listed pair, which some of their partners have the other way round
+abbrev pub Kept : List PiecePair → Side → Side → Element → Element → Type 0
+Kept free s t e f = (is_listed free s.number t.number ≡ false) × Reversed s t e f

@@ -17,3 +17,10 @@ pub struct Level {
     pub to: u32,
     pub level: u32,
 }
+
+/// Two pieces of a space by their numbers, the lesser one first, or one piece twice.
+#[derive(Clone, Copy, Debug, PartialEq, Eq)]
+pub struct PiecePair {
+    pub one: u32,
+    pub other: u32,
+}

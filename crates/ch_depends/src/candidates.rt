@@ -2,11 +2,12 @@
 
 ghost use Rattle.std.specs.Prelude.{◌≡◌, map, IfOk};
 ghost use Rattle.std.specs.List.{All};
-ghost use Rattle.ch_depends.specs.Sought.{Conflicts, IsBest, IsSide, Reversed, Reverses, SomeOf, lesser, pair_order, partners_of};
+ghost use Rattle.ch_depends.specs.Sought.{Conflicts, IsBest, IsSide, Kept, Reversed, Reverses, SomeOf, is_listed, is_pair, lesser, pair_order, partners_of};
 ghost use Rattle.ch_meeting.specs.Meeting.{IsAccessOf, IsPlain};
 ghost use Rattle.ch_space.specs.Pieces.{element_at, instances};
 ghost use Rattle.ch_timed.specs.Members.{In};
 
+use crate::answers::PiecePair;
 use crate::elements::element_at;
 use crate::levels::depend;
 use crate::sides::Side;
@@ -203,27 +204,68 @@ fn least_of_sides(alloc: Global, from: &Side, to: &Side) -> Result<Option<Candid
     Ok(best)
 }
 
+/// Whether a pair is of these two pieces, in either order.
+fn is_pair(pair: &PiecePair, one: usize, other: usize) -> bool
+    ensures { result ≡ is_pair one other pair.now }
+{
+    (pair.one as usize == one && pair.other as usize == other)
+        || (pair.other as usize == one && pair.one as usize == other)
+}
+
+/// Whether two pieces are a listed pair, in either order.
+fn is_listed(free: &[PiecePair], one: usize, other: usize) -> bool
+    ensures { result ≡ is_listed free.now one other }
+{
+    free.iter().any(|pair| is_pair(pair, one, other))
+}
+
+/// The same where the sides' pieces are no listed pair; None where they are one.
+fn least_unless_free(
+    alloc: Global,
+    from: &Side,
+    to: &Side,
+    free: &[PiecePair],
+) -> Result<Option<Candidate>, AllocError>
+    requires from { IsSide from.now }
+    requires to { IsSide to.now }
+    ensures { IfOk result (IsBest (Kept free.now from.now to.now)) }
+{
+    if is_listed(free, from.number, to.number) {
+        return Ok(None);
+    }
+    least_of_sides(alloc, from, to)
+}
+
 /// The same over all second sides.
-fn least_from(alloc: Global, from: &Side, sides: &[Side]) -> Result<Option<Candidate>, AllocError>
+fn least_from(
+    alloc: Global,
+    from: &Side,
+    sides: &[Side],
+    free: &[PiecePair],
+) -> Result<Option<Candidate>, AllocError>
     requires from { IsSide from.now }
     requires sides { All IsSide sides.now }
-    ensures { IfOk result (IsBest (SomeOf sides.now (Reversed from.now))) }
+    ensures { IfOk result (IsBest (SomeOf sides.now (Kept free.now from.now))) }
 {
     let mut best = None;
     for to in sides {
-        best = lesser(best, least_of_sides(alloc, from, to)?);
+        best = lesser(best, least_unless_free(alloc, from, to, free)?);
     }
     Ok(best)
 }
 
-/// The least pair of elements of any two sides that some of their partners have the other way round.
-pub(crate) fn least(alloc: Global, sides: &[Side]) -> Result<Option<Candidate>, AllocError>
+/// The least pair of elements of any two sides that are no listed pair, which some of their partners have the other way round.
+pub(crate) fn least(
+    alloc: Global,
+    sides: &[Side],
+    free: &[PiecePair],
+) -> Result<Option<Candidate>, AllocError>
     requires { All IsSide sides.now }
-    ensures { IfOk result (IsBest (SomeOf sides.now (λ s. SomeOf sides.now (Reversed s)))) }
+    ensures { IfOk result (IsBest (SomeOf sides.now (λ s. SomeOf sides.now (Kept free.now s)))) }
 {
     let mut best = None;
     for from in sides {
-        best = lesser(best, least_from(alloc, from, sides)?);
+        best = lesser(best, least_from(alloc, from, sides, free)?);
     }
     Ok(best)
 }

@@ -3,12 +3,13 @@
 ghost use Rattle.std.specs.Prelude.{◌≡◌, true, IfOk};
 ghost use Rattle.ch_depends.specs.Depends.{pair_of};
 ghost use Rattle.ch_depends.specs.Sought.{IsNameable};
+ghost use Rattle.ch_depends.specs.Free.{pair_of_elements, reversed_but};
 ghost use Rattle.ch_order.specs.Legal.{AreAmong};
 ghost use Rattle.ch_timed.specs.Conflict.{conflict, reversed};
 ghost use Rattle.ch_timed.specs.Order.{overtaken};
 ghost use Rattle.ch_timed.specs.Timed.{step};
 
-use crate::answers::Pair;
+use crate::answers::{Pair, PiecePair};
 use crate::candidates::{Candidate, least};
 use crate::cells::conflict;
 use crate::sides::all_sides;
@@ -40,8 +41,23 @@ pub fn reversed(alloc: Global, old: &Space, new: &Space) -> Result<Option<Pair>,
     requires kept { AreAmong old.now.list new.now.list }
     ensures { IfOk result (λ pair. pair ≡ pair_of (reversed old.now.list new.now.list)) }
 {
+    reversed_but(alloc, old, new, &[])
+}
+
+/// The same of elements that are not of a listed pair of pieces of the old space, in either order. A number that is no piece's
+/// lists nothing.
+pub fn reversed_but(
+    alloc: Global,
+    old: &Space,
+    new: &Space,
+    free: &[PiecePair],
+) -> Result<Option<Pair>, AllocError>
+    requires kept { AreAmong old.now.list new.now.list }
+    ensures { IfOk result (λ pair. pair
+        ≡ pair_of_elements (reversed_but old.now.list new.now.list free.now)) }
+{
     let sides = all_sides(alloc, old.pieces.as_slice(), new.pieces.as_slice())?;
-    match least(alloc, sides.as_slice())? {
+    match least(alloc, sides.as_slice(), free)? {
         None => Ok(None),
         Some(candidate) => answer(alloc, candidate),
     }

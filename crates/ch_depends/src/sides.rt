@@ -2,7 +2,7 @@
 
 ghost use Rattle.std.specs.Prelude.{◌≡◌, map, IfOk, IsTrue, ◌↔◌};
 ghost use Rattle.std.specs.List.{All};
-ghost use Rattle.ch_depends.specs.Sought.{IsPaired, IsSide};
+ghost use Rattle.ch_depends.specs.Sought.{AreNumbered, IsPaired, IsSide};
 ghost use Rattle.ch_meeting.specs.Meeting.{HaveCommon, IsAccessOf, IsPlain};
 ghost use Rattle.ch_space.specs.Keeps.{accesses};
 ghost use Rattle.ch_timed.specs.Members.{In};
@@ -15,9 +15,10 @@ use ch_space::Piece;
 use ch_timed::Label;
 use std::alloc::{AllocError, Global};
 
-/// A piece, the accesses that its body reads, and the pieces of another list that have its elements.
+/// A piece with its number in its list, the accesses that its body reads, and the pieces of another list that have its elements.
 #[derive(Drop)]
 pub(crate) struct Side<'a> {
+    pub(crate) number: usize,
     pub(crate) piece: &'a Piece,
     pub(crate) reads: List<&'a Access>,
     pub(crate) partners: List<&'a Piece>,
@@ -91,10 +92,16 @@ fn partners<'a>(
     with_common(alloc, piece, same.as_slice())
 }
 
-fn side_of<'a>(alloc: Global, piece: &'a Piece, news: &'a [Piece]) -> Result<Side<'a>, AllocError>
+fn side_of<'a>(
+    alloc: Global,
+    number: usize,
+    piece: &'a Piece,
+    news: &'a [Piece],
+) -> Result<Side<'a>, AllocError>
     requires piece { IsPlain piece.now }
     requires accesses { All (IsAccessOf piece.now) (accesses piece.now.body) }
     requires news { All IsPlain news.now }
+    ensures number { IfOk result (λ side. side.number ≡ number) }
     ensures piece { IfOk result (λ side. side.piece.now ≡ piece.now) }
     ensures side { IfOk result IsSide }
     ensures paired { IfOk result (IsPaired news.now) }
@@ -102,6 +109,7 @@ fn side_of<'a>(alloc: Global, piece: &'a Piece, news: &'a [Piece]) -> Result<Sid
     let reads = reads(alloc, &piece.body.right)?;
     let partners = partners(alloc, piece, news)?;
     Ok(Side {
+        number,
         piece,
         reads,
         partners,
@@ -118,12 +126,14 @@ pub(crate) fn all_sides<'a>(
     requires accesses { All (λ p. All (IsAccessOf p) (accesses p.body)) olds.now }
     requires news { All IsPlain news.now }
     ensures pieces { IfOk result (λ sides. map (λ s. s.piece.now) sides ≡ olds.now) }
+    ensures numbered { IfOk result AreNumbered }
     ensures each { IfOk result (All IsSide) }
     ensures paired { IfOk result (All (IsPaired news.now)) }
 {
     let mut sides = List::with_capacity(alloc, olds.len())?;
     for piece in olds {
-        sides.push(side_of(alloc, piece, news)?)?;
+        let number = sides.len();
+        sides.push(side_of(alloc, number, piece, news)?)?;
     }
     Ok(sides)
 }

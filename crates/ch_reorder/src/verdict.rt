@@ -13,6 +13,7 @@ use ch_depends::{Pair, pairs, reversed};
 use ch_nest::{ArrayDecl, Nest, Shape};
 use ch_order::same_meaning;
 use ch_print::{put_buffer, put_cell, put_identity, put_number, put_wide};
+use ch_reduce::{reversed_sum, same_sum};
 use ch_space::{ShapeError, Space, SpaceError, count, of_nest, piece_count, pieces};
 use ch_timed::{Cell, Element};
 use std::alloc::{AllocError, Global};
@@ -94,17 +95,59 @@ fn pairs_text(alloc: Global, space: &Space) -> Result<Text, AllocError> {
     Ok(out)
 }
 
-/// The least reversed pair, asked for so many times.
-fn asked(alloc: Global, old: &Space, new: &Space, repeats: u32) -> Result<Option<Pair>, AllocError>
+/// How the legality of a command is asked for.
+#[derive(Clone, Copy)]
+struct Asking {
+    /// How many times.
+    repeats: u32,
+    /// Whether sums may be made in any order.
+    sums_are_free: bool,
+}
+
+/// The least reversed pair.
+fn asked_once(
+    alloc: Global,
+    old: &Space,
+    new: &Space,
+    sums_are_free: bool,
+) -> Result<Option<Pair>, AllocError>
     requires { AreAmong old.now.list new.now.list }
 {
-    for _ in 1..repeats {
-        let _pair = reversed(alloc, old, new)?;
+    if sums_are_free {
+        return reversed_sum(alloc, old, new);
     }
     reversed(alloc, old, new)
 }
 
-/// The most elements of a list that is compared by `same_meaning` too, whose time grows with the third power of that number.
+/// The least reversed pair, asked for so many times.
+fn asked(
+    alloc: Global,
+    old: &Space,
+    new: &Space,
+    asking: Asking,
+) -> Result<Option<Pair>, AllocError>
+    requires { AreAmong old.now.list new.now.list }
+{
+    for _ in 1..asking.repeats {
+        let _pair = asked_once(alloc, old, new, asking.sums_are_free)?;
+    }
+    asked_once(alloc, old, new, asking.sums_are_free)
+}
+
+/// Whether both lists have the same meaning, told without the solver.
+fn have_one_meaning(
+    alloc: Global,
+    old: &Space,
+    new: &Space,
+    sums_are_free: bool,
+) -> Result<bool, AllocError> {
+    if sums_are_free {
+        return same_sum(alloc, old, new);
+    }
+    same_meaning(alloc, old, new)
+}
+
+/// The most elements of a list that is compared by `same_meaning` or `same_sum` too, whose time grows with the third power of that number.
 const MOST_COMPARED: u64 = 64;
 
 /// What one command leaves: a space to go on with, or a refusal.
@@ -120,15 +163,16 @@ fn compared(
     arrays: &[ArrayDecl],
     old: &Space,
     new: Space,
-    repeats: u32,
+    asking: Asking,
 ) -> Result<Outcome, AllocError>
     requires { AreAmong old.now.list new.list }
 {
-    let pair = asked(alloc, old, &new, repeats)?;
-    if count(old) <= MOST_COMPARED && same_meaning(alloc, old, &new)? != pair.is_none() {
+    let free = asking.sums_are_free;
+    let pair = asked(alloc, old, &new, asking)?;
+    if count(old) <= MOST_COMPARED && have_one_meaning(alloc, old, &new, free)? != pair.is_none() {
         return Ok(Outcome::Refused(disagreement(alloc)?));
     }
-    if !agrees(alloc, old, &new, pair.as_ref())? {
+    if !agrees(alloc, old, &new, free, pair.as_ref())? {
         return Ok(Outcome::Refused(disagreement(alloc)?));
     }
     match pair {
@@ -184,7 +228,7 @@ fn step(
     nest: &Nest,
     space: &Space,
     text: &str,
-    repeats: u32,
+    asking: Asking,
 ) -> Result<Outcome, AllocError> {
     let command = parsed(alloc, text)?;
     match applied(alloc, space, &command) {
@@ -192,7 +236,7 @@ fn step(
             if !is_defined(alloc, nest, space, &new, &command)? {
                 return Ok(Outcome::Refused(disagreement(alloc)?));
             }
-            compared(alloc, number, nest.arrays.as_slice(), space, new, repeats)
+            compared(alloc, number, nest.arrays.as_slice(), space, new, asking)
         }
         Err(ShapeError::Memory) => Err(AllocError),
         Err(ShapeError::Shape(cause)) => Ok(Outcome::Refused(shape_text(alloc, number, cause)?)),
@@ -208,11 +252,19 @@ fn judged(
     repeats: u32,
 ) -> Result<Text, AllocError> {
     let mut space = space;
+    let mut asking = Asking {
+        repeats,
+        sums_are_free: false,
+    };
     for (k, command) in recipe.split(';').enumerate() {
         if command == "counts" {
             return counts_text(alloc, &space);
         }
-        match step(alloc, k as u64 + 1, nest, &space, command, repeats)? {
+        if command == "accumulate" {
+            asking.sums_are_free = true;
+            continue;
+        }
+        match step(alloc, k as u64 + 1, nest, &space, command, asking)? {
             Outcome::Refused(answer) => return Ok(answer),
             Outcome::Next(new) => space = new,
         }

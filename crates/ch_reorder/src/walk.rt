@@ -96,6 +96,59 @@ fn clash(ours: &[Cell], theirs: &[Cell]) -> Option<usize> {
     None
 }
 
+fn same_sub(a: &Sub, b: &Sub) -> bool {
+    a.modulus == b.modulus
+        && a.form.constant == b.form.constant
+        && a.form.coefs.as_slice() == b.form.coefs.as_slice()
+}
+
+fn same_access(a: &Access, b: &Access) -> bool {
+    let (ours, theirs) = (a.subs.as_slice(), b.subs.as_slice());
+    a.array == b.array
+        && ours.len() == theirs.len()
+        && ours
+            .iter()
+            .zip(theirs)
+            .all(|(sub, other)| same_sub(sub, other))
+}
+
+/// Whether a right side has an access of the array.
+fn has_array(right: &Expr, array: u32) -> bool {
+    match right {
+        Expr::Number(_) | Expr::Iter(_) => false,
+        Expr::Read(access) => access.array == array,
+        Expr::Neg(inner) => has_array(inner.get(), array),
+        Expr::Add(left, right) | Expr::Sub(left, right) | Expr::Mul(left, right) => {
+            has_array(left.get(), array) || has_array(right.get(), array)
+        }
+    }
+}
+
+/// Whether the one part is what the element writes, and the other has nothing of its array.
+fn adds_to(write: &Access, own: &Expr, other: &Expr) -> bool {
+    match own {
+        Expr::Read(access) => same_access(access, write) && !has_array(other, write.array),
+        _ => false,
+    }
+}
+
+/// Whether the element adds to what it writes, or takes from it.
+fn adds(element: &Element) -> bool {
+    let write = &element.body.write;
+    match &element.body.right {
+        Expr::Add(left, right) => {
+            adds_to(write, left.get(), right.get()) || adds_to(write, right.get(), left.get())
+        }
+        Expr::Sub(left, right) => adds_to(write, left.get(), right.get()),
+        _ => false,
+    }
+}
+
+/// Whether both add to one array.
+fn add_to_one(a: &Element, b: &Element) -> bool {
+    adds(a) && adds(b) && a.body.write.array == b.body.write.array
+}
+
 fn same_identity(a: &Identity, b: &Identity) -> bool {
     a.label == b.label && a.iters.as_slice() == b.iters.as_slice()
 }
@@ -110,11 +163,12 @@ pub(crate) fn place(elements: &[Element], identity: &Identity) -> usize {
 }
 
 /// Whether the pair is that of the walk: the first pair in the order of the old list that conflicts and that the new list has the
-/// other way round.
+/// other way round. Where sums are free, two elements that add to one array may change places.
 pub(crate) fn agrees<A: Timed, B: Timed>(
     alloc: Global,
     old: &A,
     new: &B,
+    sums_are_free: bool,
     pair: Option<&Pair>,
 ) -> Result<bool, AllocError> {
     let olds = elements(alloc, old)?;
@@ -124,6 +178,9 @@ pub(crate) fn agrees<A: Timed, B: Timed>(
         let first_place = place(&news, &first.identity);
         for second in olds.iter().skip(k + 1) {
             if place(&news, &second.identity) >= first_place {
+                continue;
+            }
+            if sums_are_free && add_to_one(first, second) {
                 continue;
             }
             let theirs = cells(alloc, second)?;

@@ -1,0 +1,5 @@
+pub mod Accesses
+pub mod FreePairs
+pub mod Parts
+pub mod Turned
+pub mod Relaxed
