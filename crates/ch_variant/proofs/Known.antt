@@ -1,6 +1,7 @@
 -- The reversed pair of lists whose bodies have known reads can be computed; of additions to one array none is in free conflict.
-use Rattle.std.proofs.Common.{◌≡◌, refl, sym, ap, ◌∙◌, ℕ, zero, suc, nat_eq, Bool, true, false, ◌&&◌, if◌then◌else◌, Option, Some, None, List, [], ◌∷◌, ◌++◌, map, ◌⊎◌, inl, inr}
+use Rattle.std.proofs.Common.{◌≡◌, refl, sym, ap, ◌∙◌, arith, ℕ, nat_eq, Bool, true, false, ◌&&◌, if◌then◌else◌, Option, Some, None, List, [], ◌∷◌, ◌++◌, map}
 use Rattle.std.specs.Bool.{IsTrue}
+use Rattle.std.proofs.lemmas.Bool.Decides.{nat_tests}
 use Rattle.ch_nest.specs.declared.nest.Access.{Access}
 use Rattle.ch_nest.specs.declared.nest.Body.{Body}
 use Rattle.ch_reduce.specs.Accumulation.{accumulates}
@@ -55,8 +56,7 @@ abbrev pub AddsTo : ℕ → Step → Type 0
 AddsTo array s = IsTrue (accumulates s.body) × (s.body.write.array ≡ array)
 
 same_number : (n : ℕ) → nat_eq n n ≡ true
-same_number zero = refl
-same_number (suc n) = same_number n
+same_number n = grind (arith, nat_tests)
 
 both_add : (array : ℕ) (a b : Step) → AddsTo array a → AddsTo array b → add_to_one a b ≡ true
 both_add array a b f g =
@@ -67,16 +67,16 @@ both_add array a b f g =
 free_of : (array : ℕ) (a b : Step) → AddsTo array a → AddsTo array b → free_conflict a b ≡ None
 free_of array a b f g = ap (λ t. if t then None else conflict a b) (both_add array a b f g)
 
-overtaken_none : (t : Bool) (a b : Step) → overtaken t a b (None {A = Cell}) ≡ None
-overtaken_none true a b = refl
-overtaken_none false a b = refl
+overtaken_none : (t : Bool) (a b : Step) (o : Option Cell) → o ≡ None → overtaken t a b o ≡ None
+overtaken_none true a b None e = refl
+overtaken_none true a b (Some c) e = cc
+overtaken_none false a b o e = refl
 
 overtakes_none : (array : ℕ) (a : Step) (later new : List Step) → AddsTo array a → Each (AddsTo array) later
     → overtakes same_step free_conflict a later new ≡ None
 overtakes_none array a [] new f g = refl
 overtakes_none array a (b ∷ later) new f g =
-    ap (λ c. or_else (overtaken (is_before same_step b a new) a b c) (overtakes same_step free_conflict a later new)) (free_of array a b f g.0)
-    ∙ ap (λ o. or_else o (overtakes same_step free_conflict a later new)) (overtaken_none (is_before same_step b a new) a b)
+    ap (λ o. or_else o (overtakes same_step free_conflict a later new)) (overtaken_none (is_before same_step b a new) a b (free_conflict a b) (free_of array a b f g.0))
     ∙ overtakes_none array a later new f g.1
 
 steps_free : (array : ℕ) (old new : List Step) → Each (AddsTo array) old → order.reversed same_step free_conflict old new ≡ None
