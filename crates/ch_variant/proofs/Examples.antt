@@ -1,7 +1,6 @@
 -- Recipes on small programs, computed from the definitions.
-use Rattle.std.proofs.Common.{◌≡◌, refl, sym, ap, ◌∙◌, Bool, true, false, not, ◌&&◌, ◌||◌, ℕ, nat_eq, ℤ, pos, negsuc, List, [], ◌∷◌, map, Option, Some, None, Result, Ok, Err}
+use Rattle.std.proofs.Common.{◌≡◌, refl, sym, ap, ◌∙◌, true, false, ◌&&◌, ◌||◌, ℤ, pos, negsuc, List, [], ◌∷◌, Some, None, Ok, Err}
 use Rattle.ch_affine.specs.Form.{Form}
-use Rattle.ch_nest.specs.declared.cause.Shape.{Shape}
 use Rattle.ch_nest.specs.declared.nest.Access.{Access}
 use Rattle.ch_nest.specs.declared.nest.Body.{Body}
 use Rattle.std.specs.List.{list_all}
@@ -12,28 +11,23 @@ use Rattle.ch_nest.specs.declared.nest.Expr.TheViews.{out-Expr, out-roll-Expr}
 use Rattle.ch_nest.specs.declared.nest.Item.TheVariants.{Loop, Assign}
 use Rattle.ch_nest.specs.declared.nest.Sub.{Sub}
 use Rattle.ch_nest.specs.LoopNest.{LoopNest}
-use Rattle.ch_script.specs.declared.recipe.Arg.{Arg}
 use Rattle.ch_script.specs.declared.recipe.Arg.TheVariants as arg
 use Rattle.ch_script.specs.declared.recipe.Command.{Command}
-use Rattle.ch_script.specs.declared.recipe.Command.TheVariants.{Accumulate, Permute, Shift, Tile, Unroll}
-use Rattle.ch_script.specs.declared.refusal.Refusal.{Refusal}
+use Rattle.ch_script.specs.declared.recipe.Command.TheVariants.{Accumulate, Permute, Tile, Unroll}
 use Rattle.ch_script.specs.declared.refusal.Refusal.TheVariants as refusal
 use Rattle.ch_reduce.specs.Accumulation.{accumulates, adds_to, is_of_other, is_read, leaves_out}
 use Rattle.ch_reduce.specs.Relaxed.{relaxed_reversed}
 use Rattle.ch_space.specs.Listed.{Listed}
 use Rattle.ch_timed.specs.Conflict.{reads, reversed}
-use Rattle.ch_timed.specs.Members.{Each}
-use Rattle.ch_timed.specs.Order as order
 use Rattle.ch_timed.specs.Start.{start}
-use Rattle.ch_timed.specs.Timed.{Step, same_step, step}
-use Rattle.ch_timed.specs.declared.element.Cell.{Cell}
+use Rattle.ch_timed.specs.Timed.{step}
 use Rattle.ch_timed.specs.declared.element.Element.{Element}
 use Rattle.ch_timed.specs.declared.element.Identity.{Identity}
 use Rattle.ch_timed.specs.declared.element.Label.TheVariants.{Stmt}
 use Rattle.ch_timed.proofs.Rolls.{reads_add, reads_iter, reads_mul, reads_number, reads_read, start_loop, start_assign}
 use Rattle.ch_variant.specs.Applied.{and_then, applied, decided, from_step, one}
 use Rattle.ch_variant.specs.Commands.{cause, changed, next}
-use Rattle.ch_variant.proofs.Known.{AddsTo, Reads, known_conflict, reversed_known, sums_free}
+use Rattle.ch_variant.proofs.Known.{reversed_known, sums_free}
 
 abbrev form : List ℤ → ℤ → Form
 form coefs constant = record { coefs = coefs; constant = constant }

@@ -1,13 +1,12 @@
 -- The reversed pair of lists whose bodies have known reads can be computed; of additions to one array none is in free conflict.
-use Rattle.std.proofs.Common.{◌≡◌, refl, sym, ap, ◌∙◌, arith, ℕ, nat_eq, Bool, true, false, ◌&&◌, if◌then◌else◌, Option, Some, None, List, [], ◌∷◌, ◌++◌, map}
+use Rattle.std.proofs.Common.{◌≡◌, refl, ap, ◌∙◌, arith, ℕ, nat_eq, Bool, true, false, ◌&&◌, if◌then◌else◌, Option, Some, None, List, [], ◌∷◌, ◌++◌, map}
 use Rattle.std.specs.Bool.{IsTrue}
 use Rattle.std.proofs.lemmas.Bool.Decides.{nat_tests}
 use Rattle.ch_nest.specs.declared.nest.Access.{Access}
-use Rattle.ch_nest.specs.declared.nest.Body.{Body}
 use Rattle.ch_reduce.specs.Accumulation.{accumulates}
 use Rattle.ch_reduce.specs.Relaxed.{add_to_one, free_conflict, relaxed_reversed}
 use Rattle.ch_timed.specs.Conflict.{cell_of, cells_of, clash, conflict, reads, reversed, written}
-use Rattle.ch_timed.specs.Members.{Each, In}
+use Rattle.ch_timed.specs.Members.{Each}
 use Rattle.ch_timed.specs.Order as order
 use Rattle.ch_timed.specs.Order.{is_before, or_else, overtaken, overtakes}
 use Rattle.ch_timed.specs.Timed.{Step, same_step, step}

@@ -1,5 +1,5 @@
 -- One command: when there is a next program, what it keeps, and the pair for which there is none.
-use Rattle.std.proofs.Common.{◌≡◌, refl, sym, ap, ◌∙◌, subst, ℕ, ◌+◌, ℤ, Bool, true, false, if◌then◌else◌, List, [], length, map, Option, Some, None, Result, Ok, Err}
+use Rattle.std.proofs.Common.{◌≡◌, refl, sym, ap, ◌∙◌, subst, ℕ, ℤ, Bool, true, false, if◌then◌else◌, List, map, Option, Some, None, Ok, Err}
 use Rattle.std.specs.Bool.{IsTrue}
 use Rattle.std.proofs.lemmas.Bool.{and_parts}
 use Rattle.ch_depends.specs.Depends.{pair_of}
@@ -10,7 +10,6 @@ use Rattle.ch_order.specs.Legal.{AreAmong, IsLegalBy}
 use Rattle.ch_order.proofs.Agreements.{keeps_legal, keeps_same}
 use Rattle.ch_reduce.proofs.Relaxed.{relaxed_end, relaxed_inside}
 use Rattle.ch_script.specs.declared.recipe.Command.{Command}
-use Rattle.ch_script.specs.declared.refusal.Refusal.{Refusal}
 use Rattle.ch_script.specs.declared.refusal.Refusal.TheVariants.{Illegal}
 use Rattle.ch_script.specs.declared.refusal.Refusal.TheVariants as refusal
 use Rattle.ch_space.specs.Listed.{Listed}
@@ -25,7 +24,6 @@ use Rattle.ch_variant.specs.Commands.{IsStep, cause, changed, frees_sums, next}
 use Rattle.ch_variant.specs.LeastPairs.{IsLeastTurned, must_keep}
 use Rattle.ch_variant.specs.Meaning.{Keeps}
 use Rattle.ch_variant.specs.Refusals.{IsLeastPair, StepIsLeast}
-use Rattle.ch_variant.specs.declared.error.ApplyError.TheVariants.{Refused}
 use Rattle.ch_variant.proofs.LeastTurned.{found}
 
 -- what is known of a command's call that gave a program

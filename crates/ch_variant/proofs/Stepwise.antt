@@ -1,5 +1,5 @@
 -- The commands of a recipe one after another: what the first so many make of a program, and what one more does.
-use Rattle.std.proofs.Common.{◌≡◌, refl, sym, subst, ap, ◌∙◌, arith, add-one, Bool, true, false, ◌||◌, if◌then◌else◌, ℕ, suc, ◌+◌, ◌<◌, ◌≤◌, ℤ, Result, Ok, Err, List, [], ◌∷◌, ◌++◌, length, take, drop, get_or}
+use Rattle.std.proofs.Common.{◌≡◌, refl, sym, subst, ap, ◌∙◌, arith, Bool, true, false, ◌||◌, if◌then◌else◌, ℕ, suc, ◌+◌, ◌<◌, ◌≤◌, ℤ, Result, Ok, Err, List, [], ◌∷◌, ◌++◌, length, take, drop, get_or}
 use Rattle.std.specs.List.{list_any}
 use Rattle.std.specs.Result.{IsErrAnd}
 use Rattle.std.proofs.Math.Bool.{or-true}
@@ -13,7 +13,7 @@ use Rattle.ch_script.specs.declared.refusal.Refusal.TheVariants.{Illegal, Shape}
 use Rattle.ch_space.specs.Listed.{Listed}
 use Rattle.ch_variant.specs.Applied.{IsAnswer, and_then, decided, from_step, one, plain, turned}
 use Rattle.ch_variant.specs.Commands.{cause, changed, frees_sums, next}
-use Rattle.ch_variant.specs.Refusals.{IsIllegal, IsLeastPair, PairIsLeast, StepIsLeast}
+use Rattle.ch_variant.specs.Refusals.{IsLeastPair, PairIsLeast, StepIsLeast}
 use Rattle.ch_variant.specs.declared.error.ApplyError.{ApplyError}
 use Rattle.ch_variant.specs.declared.error.ApplyError.TheVariants.{Refused, Memory}
 

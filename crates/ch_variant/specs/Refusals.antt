@@ -1,9 +1,8 @@
 -- What a refusal for a reversed pair says of the program before the refused command and after it.
-use Rattle.std.specs.Prelude.{◌≡◌, ℕ, ◌+◌, ℤ, Bool, Option, None, Result, Ok, Err, List, ◌∷◌, ◌++◌, length}
+use Rattle.std.specs.Prelude.{◌≡◌, ℕ, ◌+◌, ℤ, Bool, None, Result, Ok, Err, List, ◌∷◌, ◌++◌, length}
 use Rattle.std.specs.List.{list_any}
 use Rattle.ch_nest.specs.LoopNest.{LoopNest}
 use Rattle.ch_script.specs.declared.recipe.Command.{Command}
-use Rattle.ch_script.specs.declared.refusal.Refusal.{Refusal}
 use Rattle.ch_script.specs.declared.refusal.Refusal.TheVariants.{Illegal, Shape}
 use Rattle.ch_space.specs.Listed.{Listed}
 use Rattle.ch_timed.specs.declared.element.Cell.{Cell}

@@ -90,12 +90,7 @@ fn illegal(step: u32, pair: Pair) -> ApplyError
 
 /// The least pair of conflicting statement instances that the new program has the other way round.
 /// Where sums may be made in any order, two that add to one array don't conflict.
-fn turned(
-    alloc: Global,
-    sums: bool,
-    old: &Space,
-    new: &Space,
-) -> Result<Option<Pair>, AllocError>
+fn turned(alloc: Global, sums: bool, old: &Space, new: &Space) -> Result<Option<Pair>, AllocError>
     requires { AreAmong old.now.list new.now.list }
     ensures { IfOk result (λ pair. pair ≡ pair_of (turned sums old.now.list new.now.list)) }
 {

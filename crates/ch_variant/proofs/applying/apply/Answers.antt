@@ -1,4 +1,4 @@
-use Rattle.std.proofs.Common.{◌≡◌, ◌∙◌, sym, ap, subst, arith, Bool, true, ◌+◌}
+use Rattle.std.proofs.Common.{◌∙◌, sym, ap, subst, arith, Bool, true, ◌+◌}
 use Rattle.ch_script.specs.Recipes.{RecipeParts}
 use Rattle.ch_space.specs.Listed.{Listed}
 use Rattle.ch_variant.specs.Applied.{IsAnswer, applied, plain}

@@ -1,4 +1,4 @@
-use Rattle.std.proofs.Common.{◌≡◌, ◌∙◌, sym, subst, refl, Result, Err}
+use Rattle.std.proofs.Common.{◌∙◌, sym, subst, refl, Err}
 use Rattle.ch_space.specs.Listed.{Listed}
 use Rattle.ch_variant.specs.Applied.{IsAnswer, one}
 use Rattle.ch_variant.specs.Refusals.{StepIsLeast}
