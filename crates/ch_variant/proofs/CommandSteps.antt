@@ -1,5 +1,5 @@
 -- What the calls of the commands tell, at arguments that are the numbers of a recipe's command.
-use Rattle.std.proofs.Common.{◌≡◌, refl, sym, ap, ◌∙◌, subst, arith, ℕ, ◌+◌, ◌*◌, ℤ, List, Option, Result, Ok, Err}
+use Rattle.std.proofs.Common.{◌≡◌, refl, sym, subst, arith, ℕ, ◌+◌, ◌*◌, ℤ, List, Option, Result, Ok, Err}
 use Rattle.std.specs.Prelude.{IfOk}
 use Rattle.ch_affine.specs.Form.{Form}
 use Rattle.ch_cut.specs.Cut.{peel_cause, peeled, split, split_cause}
@@ -22,7 +22,7 @@ use Rattle.ch_tile.specs.Tiled.{tile_cause, tiled}
 use Rattle.ch_timed.specs.declared.element.Element.{Element}
 use Rattle.ch_unroll.specs.Unrolled.{unroll_cause, unrolled}
 use Rattle.ch_variant.specs.Arguments.{number, numbers}
-use Rattle.ch_variant.specs.Commands.{IsStep, cause, changed, factor, next}
+use Rattle.ch_variant.specs.Commands.{IsStep, cause, changed, factor}
 
 -- what each of the calls tells: its cause, its list, and what becomes of the weight
 pub record Tells (p : Listed) (first : Option Shape) (list : List Element) (weight : ℕ) (r : Result Listed ShapeError) : Type 0 where

@@ -1,7 +1,7 @@
 -- The forms of a recipe's conditions, and the point that is used for a point.
 use Rattle.std.proofs.Common.{◌≡◌, sym, ap, ◌∙◌, subst, arith, ℕ, zero, suc, ◌+◌, ◌<◌, ◌≤◌, ℤ, pos, Option, Some, None, List, [], ◌∷◌, ◌++◌, length, map, get_or, take}
 use Rattle.std.specs.Bool.{IsTrue}
-use Rattle.std.specs.List.{All, list_all, range_with_len}
+use Rattle.std.specs.List.{All, list_all}
 use Rattle.std.specs.Option.{MatchOption, unwrap_or}
 use Rattle.std.proofs.lemmas.Bool.{and_parts}
 use Rattle.std.proofs.lemmas.List.{map_more, take_all}

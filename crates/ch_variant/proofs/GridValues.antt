@@ -8,10 +8,9 @@ use Rattle.std.proofs.lemmas.Int.{ints}
 use Rattle.std.proofs.lemmas.Bool.Decides.{nat_tests}
 use Rattle.ch_affine.specs.Affine.{IsAtMost}
 use Rattle.ch_constrain.specs.Nearest.{values}
-use Rattle.ch_grid.specs.Grid.{is_good, is_within, size, sizes, value_at}
+use Rattle.ch_grid.specs.Grid.{is_good, size, sizes, value_at}
 use Rattle.ch_grid.specs.Points.{is_point}
 use Rattle.ch_grid.specs.declared.param.Param.{Param}
-use Rattle.ch_grid.proofs.Sizes.{Within, within_facts}
 
 pub point_length : (ps : List Param) (xs : List ℕ) → IsTrue (is_point (sizes ps) xs) → length xs ≡ length ps
 point_length [] [] h = refl

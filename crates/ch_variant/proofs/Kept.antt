@@ -1,5 +1,5 @@
 -- What programs keep of a nest, from one command to the next, and what the code of such a program does.
-use Rattle.std.proofs.Common.{◌≡◌, refl, sym, ap, ◌∙◌, subst, ℕ, List, [], ◌++◌, append-nil, length, map}
+use Rattle.std.proofs.Common.{◌≡◌, sym, ◌∙◌, subst, ℕ, List, [], ◌++◌, append-nil, length}
 use Rattle.std.specs.Bool.{IsTrue}
 use Rattle.std.proofs.lemmas.Bool.{and_parts}
 use Rattle.std.proofs.lemmas.List.{length-map}
@@ -7,7 +7,6 @@ use Rattle.ch_nest.specs.Arrays.{extents_of}
 use Rattle.ch_nest.specs.LoopNest.{LoopNest}
 use Rattle.ch_nest.specs.Sound.{is_sound, items_inside}
 use Rattle.ch_nest.specs.declared.nest.ArrayDecl.{ArrayDecl}
-use Rattle.ch_order.specs.Agreement.{KeepsArrays}
 use Rattle.ch_order.proofs.Agreements.{keeps_both, keeps_itself, keeps_run_buffered}
 use Rattle.ch_space.specs.Listed.{Listed}
 use Rattle.ch_timed.specs.Flat.{StaysInside}

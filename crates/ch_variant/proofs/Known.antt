@@ -1,9 +1,12 @@
--- The reversed pair of lists whose bodies have known reads: it can then be computed.
-use Rattle.std.proofs.Common.{◌≡◌, refl, sym, ap, ◌∙◌, Bool, Option, Some, None, List, [], ◌∷◌, ◌++◌, map, ◌⊎◌, inl, inr}
+-- The reversed pair of lists whose bodies have known reads can be computed; of additions to one array none is in free conflict.
+use Rattle.std.proofs.Common.{◌≡◌, refl, ap, ◌∙◌, arith, ℕ, nat_eq, Bool, true, false, ◌&&◌, if◌then◌else◌, Option, Some, None, List, [], ◌∷◌, ◌++◌, map}
+use Rattle.std.specs.Bool.{IsTrue}
+use Rattle.std.proofs.lemmas.Bool.Decides.{nat_tests}
 use Rattle.ch_nest.specs.declared.nest.Access.{Access}
-use Rattle.ch_nest.specs.declared.nest.Body.{Body}
+use Rattle.ch_reduce.specs.Accumulation.{accumulates}
+use Rattle.ch_reduce.specs.Relaxed.{add_to_one, free_conflict, relaxed_reversed}
 use Rattle.ch_timed.specs.Conflict.{cell_of, cells_of, clash, conflict, reads, reversed, written}
-use Rattle.ch_timed.specs.Members.{Each, In}
+use Rattle.ch_timed.specs.Members.{Each}
 use Rattle.ch_timed.specs.Order as order
 use Rattle.ch_timed.specs.Order.{is_before, or_else, overtaken, overtakes}
 use Rattle.ch_timed.specs.Timed.{Step, same_step, step}
@@ -44,3 +47,42 @@ steps_known rs (a ∷ later) new g =
 pub reversed_known : (rs : List Access) (old new : List Element) → Each (Reads rs) (map step old)
     → reversed old new ≡ order.reversed same_step (known_conflict rs) (map step old) (map step new)
 reversed_known rs old new g = steps_known rs (map step old) (map step new) g
+
+-- ---- lists of additions to one array: no two of their steps are in free conflict
+
+-- the step adds to a cell of this array
+abbrev pub AddsTo : ℕ → Step → Type 0
+AddsTo array s = IsTrue (accumulates s.body) × (s.body.write.array ≡ array)
+
+same_number : (n : ℕ) → nat_eq n n ≡ true
+same_number n = grind (arith, nat_tests)
+
+both_add : (array : ℕ) (a b : Step) → AddsTo array a → AddsTo array b → add_to_one a b ≡ true
+both_add array a b f g =
+    ap (λ t. (t && accumulates b.body) && nat_eq a.body.write.array b.body.write.array) f.0
+    ∙ ap (λ t. t && nat_eq a.body.write.array b.body.write.array) g.0
+    ∙ ap (λ n. nat_eq n b.body.write.array) f.1 ∙ ap (nat_eq array) g.1 ∙ same_number array
+
+free_of : (array : ℕ) (a b : Step) → AddsTo array a → AddsTo array b → free_conflict a b ≡ None
+free_of array a b f g = ap (λ t. if t then None else conflict a b) (both_add array a b f g)
+
+overtaken_none : (t : Bool) (a b : Step) (o : Option Cell) → o ≡ None → overtaken t a b o ≡ None
+overtaken_none true a b None e = refl
+overtaken_none true a b (Some c) e = cc
+overtaken_none false a b o e = refl
+
+overtakes_none : (array : ℕ) (a : Step) (later new : List Step) → AddsTo array a → Each (AddsTo array) later
+    → overtakes same_step free_conflict a later new ≡ None
+overtakes_none array a [] new f g = refl
+overtakes_none array a (b ∷ later) new f g =
+    ap (λ o. or_else o (overtakes same_step free_conflict a later new)) (overtaken_none (is_before same_step b a new) a b (free_conflict a b) (free_of array a b f g.0))
+    ∙ overtakes_none array a later new f g.1
+
+steps_free : (array : ℕ) (old new : List Step) → Each (AddsTo array) old → order.reversed same_step free_conflict old new ≡ None
+steps_free array [] new g = refl
+steps_free array (a ∷ later) new g =
+    ap (λ o. or_else o (order.reversed same_step free_conflict later new)) (overtakes_none array a later new g.0 g.1)
+    ∙ steps_free array later new g.1
+
+pub sums_free : (array : ℕ) (old new : List Element) → Each (AddsTo array) (map step old) → relaxed_reversed old new ≡ None
+sums_free array old new g = steps_free array (map step old) (map step new) g

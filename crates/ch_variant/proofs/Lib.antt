@@ -2,6 +2,7 @@ pub mod GridValues
 pub mod Conditions
 pub mod Stepwise
 pub mod Turns
+pub mod LeastTurned
 pub mod Legality
 pub mod CommandSteps
 pub mod Kept

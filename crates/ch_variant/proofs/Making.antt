@@ -1,5 +1,5 @@
 -- Code that was generated for a program of a nest is a variant of that nest.
-use Rattle.std.proofs.Common.{◌≡◌, refl, sym, subst, ap, ◌∙◌, ℕ, ℤ, Ok, Err, Result, Option, Some, None, List, [], length, ◌++◌}
+use Rattle.std.proofs.Common.{◌≡◌, refl, sym, subst, ap, ◌∙◌, ℕ, ℤ, Ok, Err, Result, Option, Some, None, List, length, ◌++◌}
 use Rattle.std.specs.Bool.{IsTrue}
 use Rattle.ch_code.specs.Trace.{unit_trace}
 use Rattle.ch_code.specs.UnitParts.{UnitParts}

@@ -1,20 +1,40 @@
 -- One command more: what holds of the program after it, where it held of the one before.
-use Rattle.std.proofs.Common.{◌≡◌, ◌∙◌, arith, ℕ, ◌+◌, ◌<◌, ℤ, Ok, List, length, get_or}
+use Rattle.std.proofs.Common.{◌≡◌, ◌∙◌, arith, Bool, true, false, ℕ, ◌+◌, ◌<◌, ◌≤◌, ℤ, Ok, List, length, get_or}
 use Rattle.ch_nest.specs.LoopNest.{LoopNest}
 use Rattle.ch_script.specs.declared.recipe.Command.{Command}
 use Rattle.ch_space.specs.Listed.{Listed}
 use Rattle.ch_variant.specs.Applied.{one, plain}
+use Rattle.ch_variant.specs.Commands.{frees_sums}
 use Rattle.ch_variant.specs.Meaning.{Keeps}
 use Rattle.ch_variant.proofs.Kept.{keeps_on}
-use Rattle.ch_variant.proofs.Stepwise.{Reaches, reaches_more}
+use Rattle.ch_variant.proofs.Stepwise.{Reaches, reaches_freed, reaches_more}
 
-pub one_more : (nest : LoopNest) (values : List ℤ) (cs : List Command) (p q : Listed) (k : ℕ) (c : Command) → one values (k + 1) c p ≡ Ok q
-    → k < length cs → c ≡ get_or cs k c → Reaches values cs (plain nest) k p → Keeps (plain nest) p → p.arrays ≡ length nest.arrays → p.commands ≡ k
-    → Keeps p q → q.arrays ≡ p.arrays → q.commands ≡ p.commands + 1
-    → Reaches values cs (plain nest) (k + 1) q × Keeps (plain nest) q × (q.arrays ≡ length nest.arrays) × (q.commands ≡ k + 1)
-one_more nest values cs p q k c o l e reached keeps arrays counted more same next = (
-  reaches_more values cs (plain nest) p q k c reached l e o,
-  keeps_on (plain nest) p q arrays keeps more,
-  same ∙ arrays,
-  omega (arith, counted, next),
-)
+-- what holds after k commands
+pub record Holds (nest : LoopNest) (values : List ℤ) (cs : List Command) (k : ℕ) (sums : Bool) (p : Listed) : Type 0 where
+  pub reached : Reaches values cs (plain nest) k sums p
+  pub keeps : Keeps (plain nest) p
+  pub arrays : p.arrays ≡ length nest.arrays
+  pub counted : p.commands ≤ k
+
+pub one_more : (nest : LoopNest) (values : List ℤ) (cs : List Command) (p q : Listed) (k : ℕ) (sums : Bool) (c : Command) → frees_sums c ≡ false
+    → one values sums (k + 1) c p ≡ Ok q → k < length cs → c ≡ get_or cs k c → Holds nest values cs k sums p
+    → Keeps p q → q.arrays ≡ p.arrays → q.commands ≡ p.commands + 1 → Holds nest values cs (k + 1) sums q
+one_more nest values cs p q k sums c m o l e h more same next =
+    let few = h.counted in
+    record {
+      reached = reaches_more values cs (plain nest) p q k sums c h.reached l e m o;
+      keeps = keeps_on (plain nest) p q h.arrays h.keeps more;
+      arrays = same ∙ h.arrays;
+      counted = omega (arith, few, next);
+    }
+
+pub freed_now : (nest : LoopNest) (values : List ℤ) (cs : List Command) (p : Listed) (k : ℕ) (sums : Bool) (c : Command) → frees_sums c ≡ true
+    → k < length cs → c ≡ get_or cs k c → Holds nest values cs k sums p → Holds nest values cs (k + 1) true p
+freed_now nest values cs p k sums c m l e h =
+    let few = h.counted in
+    record {
+      reached = reaches_freed values cs (plain nest) p k sums c h.reached l e m;
+      keeps = h.keeps;
+      arrays = h.arrays;
+      counted = omega (arith, few);
+    }

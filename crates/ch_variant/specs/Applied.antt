@@ -1,7 +1,8 @@
 -- What a recipe makes of a program, command by command, or why it is refused.
-use Rattle.std.specs.Prelude.{◌≡◌, ℕ, ◌+◌, ℤ, Option, Some, None, Result, Ok, Err, List, [], ◌∷◌, length}
+use Rattle.std.specs.Prelude.{◌≡◌, ℕ, ◌+◌, ℤ, Bool, true, false, ◌||◌, if◌then◌else◌, Option, Some, None, Result, Ok, Err, List, [], ◌∷◌, length}
 use Rattle.ch_nest.specs.LoopNest.{LoopNest}
 use Rattle.ch_nest.specs.declared.cause.Shape.{Shape}
+use Rattle.ch_reduce.specs.Relaxed.{relaxed_reversed}
 use Rattle.ch_script.specs.declared.recipe.Command.{Command}
 use Rattle.ch_script.specs.declared.refusal.Refusal.{Refusal}
 use Rattle.ch_script.specs.declared.refusal.Refusal.TheVariants as refusal
@@ -13,7 +14,8 @@ use Rattle.ch_timed.specs.Order.{Pair}
 use Rattle.ch_timed.specs.Start.{start}
 use Rattle.ch_timed.specs.Timed.{Step}
 use Rattle.ch_timed.specs.declared.element.Cell.{Cell}
-use Rattle.ch_variant.specs.Commands.{cause, changed, next}
+use Rattle.ch_timed.specs.declared.element.Element.{Element}
+use Rattle.ch_variant.specs.Commands.{cause, changed, frees_sums, next}
 use Rattle.ch_variant.specs.declared.error.ApplyError.{ApplyError}
 use Rattle.ch_variant.specs.declared.error.ApplyError.TheVariants.{Refused, Memory}
 
@@ -23,18 +25,27 @@ decided step (Some c) pair p = Err (refusal.Shape step c)
 decided step None (Some pair) p = Err (refusal.Illegal step pair.first.identity pair.second.identity pair.cell)
 decided step None None p = Ok p
 
--- one command, which has this number in the recipe
-abbrev pub one : List ℤ → ℕ → Command → Listed → Result Listed Refusal
-one values step c p = decided step (cause values c p) (reversed p.list (changed values c p.list)) (next values c p)
+-- The least pair of conflicting steps that the new list has the other way round. Where sums may be made in any order, it is the least
+-- pair in free conflict.
+abbrev pub turned : Bool → List Element → List Element → Option (Pair Step Cell)
+turned false old new = reversed old new
+turned true old new = relaxed_reversed old new
+
+-- one command, which has this number in the recipe; sums may be made in any order, or not
+abbrev pub one : List ℤ → Bool → ℕ → Command → Listed → Result Listed Refusal
+one values sums step c p =
+    if frees_sums c then Ok p
+    else decided step (cause values c p) (turned sums p.list (changed values c p.list)) (next values c p)
 
 abbrev pub and_then : Result Listed Refusal → (Listed → Result Listed Refusal) → Result Listed Refusal
 and_then (Ok p) more = more p
 and_then (Err refused) more = Err refused
 
--- the commands one after another, the first of which has this number
-abbrev pub from_step : List ℤ → ℕ → List Command → Listed → Result Listed Refusal
-from_step values step [] p = Ok p
-from_step values step (c ∷ cs) p = and_then (one values step c p) (from_step values (step + 1) cs)
+-- The commands one after another, the first of which has this number. Sums may be made in any order behind the first `accumulate`.
+abbrev pub from_step : List ℤ → Bool → ℕ → List Command → Listed → Result Listed Refusal
+from_step values sums step [] p = Ok p
+from_step values sums step (c ∷ cs) p =
+    and_then (one values sums step c p) (from_step values (sums || frees_sums c) (step + 1) cs)
 
 -- the nest itself, before any command
 abbrev pub plain : LoopNest → Listed
@@ -42,7 +53,7 @@ plain nest = record { list = start nest; arrays = length nest.arrays; temps = []
 
 -- what the commands make of the nest, at these values of the parameters; steps count from 1
 abbrev pub applied : LoopNest → List Command → List ℤ → Result Listed Refusal
-applied nest commands values = from_step values 1 commands (plain nest)
+applied nest commands values = from_step values false 1 commands (plain nest)
 
 -- a call answers this, unless memory runs out
 abbrev pub IsAnswer : {X : Type 0} → Result X ApplyError → Result X Refusal → Type 0

@@ -19,7 +19,7 @@ use Rattle.ch_timed.specs.declared.element.Element.{Element}
 use Rattle.ch_unroll.specs.Unrolled.{unroll_cause, unrolled}
 use Rattle.ch_variant.specs.Arguments.{number, numbers}
 
--- whether a command gives the statement instances another order, and does nothing else
+-- whether a command is about the order of the statement instances alone: it gives them another one, or lets sums be made in any
 abbrev pub reorders : Command → Bool
 reorders (Permute s order) = true
 reorders (Skew ss level amounts) = true
@@ -31,9 +31,14 @@ reorders (Peel s level count) = true
 reorders (Fuse ss level) = true
 reorders (Distribute ss level) = true
 reorders (Datacopy s level array) = false
-reorders Accumulate = false
+reorders Accumulate = true
 
--- the first cause why the shape of the program forbids a command that reorders
+-- whether it lets sums be made in any order from then on, and leaves the program as it is
+abbrev pub frees_sums : Command → Bool
+frees_sums Accumulate = true
+frees_sums other = false
+
+-- the first cause why the shape of the program forbids a command that gives another order
 abbrev pub cause : List ℤ → Command → Listed → Option Shape
 cause values (Permute s order) p = permute_cause p.list (number values s) (numbers values order)
 cause values (Skew ss level amounts) p =

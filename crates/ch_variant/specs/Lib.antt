@@ -2,6 +2,7 @@ pub mod Arguments
 pub mod Commands
 pub mod Applied
 pub mod Meaning
+pub mod LeastPairs
 pub mod Refusals
 pub mod Points
 pub mod Variants

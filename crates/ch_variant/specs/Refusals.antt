@@ -1,36 +1,38 @@
 -- What a refusal for a reversed pair says of the program before the refused command and after it.
-use Rattle.std.specs.Prelude.{◌≡◌, ℕ, ◌+◌, ℤ, Option, None, Result, Ok, Err, List, ◌∷◌, ◌++◌, length}
+use Rattle.std.specs.Prelude.{◌≡◌, ℕ, ◌+◌, ℤ, Bool, None, Result, Ok, Err, List, ◌∷◌, ◌++◌, length}
+use Rattle.std.specs.List.{list_any}
 use Rattle.ch_nest.specs.LoopNest.{LoopNest}
-use Rattle.ch_order.specs.Reversed.{IsLeastReversed}
 use Rattle.ch_script.specs.declared.recipe.Command.{Command}
-use Rattle.ch_script.specs.declared.refusal.Refusal.{Refusal}
 use Rattle.ch_script.specs.declared.refusal.Refusal.TheVariants.{Illegal, Shape}
 use Rattle.ch_space.specs.Listed.{Listed}
 use Rattle.ch_timed.specs.declared.element.Cell.{Cell}
 use Rattle.ch_timed.specs.declared.element.Element.{Element}
 use Rattle.ch_timed.specs.declared.element.Identity.{Identity}
 use Rattle.ch_variant.specs.Applied.{applied}
-use Rattle.ch_variant.specs.Commands.{cause, changed}
+use Rattle.ch_variant.specs.Commands.{cause, changed, frees_sums}
+use Rattle.ch_variant.specs.LeastPairs.{IsLeastTurned, must_keep}
 use Rattle.ch_variant.specs.declared.error.ApplyError.{ApplyError}
 use Rattle.ch_variant.specs.declared.error.ApplyError.TheVariants.{Refused, Memory}
 
--- A command reverses the pair of these identities on this cell, and no lesser pair; its shape forbids nothing.
-pub record IsLeastPair (values : List ℤ) (c : Command) (p : Listed) (first second : Identity) (cell : Cell) : Type 0 where
+-- A command has the pair of these identities, which must keep its order for this cell, the other way round, and no lesser pair; the
+-- shape of the program forbids nothing.
+pub record IsLeastPair (values : List ℤ) (sums : Bool) (c : Command) (p : Listed) (first second : Identity) (cell : Cell) : Type 0 where
   pub shape : cause values c p ≡ None
   pub before : Element
   pub behind : Element
   pub first_is : first ≡ before.identity
   pub second_is : second ≡ behind.identity
-  pub least : IsLeastReversed p.list (changed values c p.list) before behind cell
+  pub least : IsLeastTurned (must_keep sums) p.list (changed values c p.list) before behind cell
 
 -- of what a call answers to one command
-abbrev pub StepIsLeast : List ℤ → ℕ → Command → Listed → ApplyError → Type 0
-StepIsLeast values step c p Memory = Unit {0}
-StepIsLeast values step c p (Refused (Shape k forbidden)) = Unit {0}
-StepIsLeast values step c p (Refused (Illegal k first second cell)) =
-    (k ≡ step) × IsLeastPair values c p first second cell
+abbrev pub StepIsLeast : List ℤ → Bool → ℕ → Command → Listed → ApplyError → Type 0
+StepIsLeast values sums step c p Memory = Unit {0}
+StepIsLeast values sums step c p (Refused (Shape k forbidden)) = Unit {0}
+StepIsLeast values sums step c p (Refused (Illegal k first second cell)) =
+    (k ≡ step) × IsLeastPair values sums c p first second cell
 
--- It is the command of this number that does so, to what the commands before it make of the nest.
+-- It is the command of this number that does so, to what the commands before it make of the nest. Sums may be made in any order where one
+-- of these is `accumulate`.
 pub record IsIllegal (nest : LoopNest) (commands : List Command) (values : List ℤ) (step : ℕ) (first second : Identity) (cell : Cell) : Type 0 where
   pub earlier : List Command
   pub command : Command
@@ -39,7 +41,7 @@ pub record IsIllegal (nest : LoopNest) (commands : List Command) (values : List 
   pub number : step ≡ length earlier + 1
   pub program : Listed
   pub reached : applied nest earlier values ≡ Ok program
-  pub pair : IsLeastPair values command program first second cell
+  pub pair : IsLeastPair values (list_any frees_sums earlier) command program first second cell
 
 -- of a call's answer
 abbrev pub PairIsLeast : LoopNest → List Command → List ℤ → {X : Type 0} → Result X ApplyError → Type 0

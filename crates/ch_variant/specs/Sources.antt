@@ -2,7 +2,7 @@
 use Rattle.std.specs.Prelude.{ℕ, Option, Some, None}
 use Rattle.ch_code.specs.UnitParts.{UnitParts}
 use Rattle.ch_nest.specs.LoopNest.{LoopNest}
-use Rattle.ch_session.specs.Making.{Making, Origin}
+use Rattle.ch_session.specs.Making.{Origin}
 use Rattle.ch_variant.specs.declared.variant.Source.{Source}
 use Rattle.ch_variant.specs.Variants.{VariantParts}
 

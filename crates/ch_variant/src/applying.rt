@@ -1,14 +1,16 @@
 //! A recipe applied to a nest, command by command.
 
-ghost use Rattle.std.specs.Prelude.{◌≡◌, ◌+◌, ◌<◌, ◌≤◌, ◌^◌, length, IfErr, IfOk, IsTrue};
+ghost use Rattle.std.specs.Prelude.{◌≡◌, ◌+◌, ◌<◌, ◌≤◌, ◌^◌, false, length, IfErr, IfOk, IsTrue};
 ghost use Rattle.std.specs.List.{All, list_all};
 ghost use Rattle.ch_affine.specs.Affine.{IsAtMost};
+ghost use Rattle.ch_depends.specs.Depends.{pair_of};
 ghost use Rattle.ch_nest.specs.Sound.{is_sound};
+ghost use Rattle.ch_order.specs.Legal.{AreAmong};
 ghost use Rattle.ch_script.specs.Recipes.{command_fits};
 ghost use Rattle.ch_script.specs.declared.refusal.Refusal.TheVariants.{Illegal};
 ghost use Rattle.ch_timed.specs.Timed.{is_well_formed};
-ghost use Rattle.ch_variant.specs.Applied.{IsAnswer, applied, forbidden_at, one};
-ghost use Rattle.ch_variant.specs.Commands.{reorders};
+ghost use Rattle.ch_variant.specs.Applied.{IsAnswer, applied, forbidden_at, one, turned};
+ghost use Rattle.ch_variant.specs.Commands.{frees_sums, reorders};
 ghost use Rattle.ch_variant.specs.Meaning.{Keeps, KeepsNest, RunsNest};
 ghost use Rattle.ch_variant.specs.Refusals.{PairIsLeast, StepIsLeast};
 ghost use Rattle.ch_variant.specs.declared.error.ApplyError.TheVariants.{Refused};
@@ -17,13 +19,14 @@ use crate::commands::changed;
 use crate::error::ApplyError;
 use ch_depends::{Pair, reversed};
 use ch_nest::Nest;
+use ch_reduce::reversed_sum;
 use ch_script::{Command, Recipe, Refusal};
 use ch_space::{ShapeError, Space, space_of};
 use ch_timed::Timed;
-use std::alloc::Global;
+use std::alloc::{AllocError, Global};
 
-/// Whether each command of a recipe gives the statement instances another order, and does nothing
-/// else. Copies into buffers don't, nor does the leave to reorder sums.
+/// Whether each command of a recipe is about the order of the statement instances alone: it gives
+/// them another one, or lets sums be made in any. A copy into a buffer isn't.
 pub fn only_reorders(recipe: &Recipe) -> bool
     ensures { result ≡ list_all reorders recipe.now.commands }
 {
@@ -42,8 +45,19 @@ fn reorders(command: &Command) -> bool
         | Command::Split { .. }
         | Command::Peel { .. }
         | Command::Fuse { .. }
-        | Command::Distribute { .. } => true,
-        Command::Datacopy { .. } | Command::Accumulate => false,
+        | Command::Distribute { .. }
+        | Command::Accumulate => true,
+        Command::Datacopy { .. } => false,
+    }
+}
+
+/// Whether a command lets sums be made in any order from then on.
+fn frees_sums(command: &Command) -> bool
+    ensures { result ≡ frees_sums command.now }
+{
+    match command {
+        Command::Accumulate => true,
+        _ => false,
     }
 }
 
@@ -74,24 +88,38 @@ fn illegal(step: u32, pair: Pair) -> ApplyError
     })
 }
 
-/// The program after the command of this number: its shape may forbid the command, or the least
-/// pair of statement instances that it would reverse does.
+/// The least pair of conflicting statement instances that the new program has the other way round.
+/// Where sums may be made in any order, two that add to one array don't conflict.
+fn turned(alloc: Global, sums: bool, old: &Space, new: &Space) -> Result<Option<Pair>, AllocError>
+    requires { AreAmong old.now.list new.now.list }
+    ensures { IfOk result (λ pair. pair ≡ pair_of (turned sums old.now.list new.now.list)) }
+{
+    if sums {
+        return reversed_sum(alloc, old, new);
+    }
+    reversed(alloc, old, new)
+}
+
+/// The program after the command of this number, which gives another order: its shape may forbid
+/// the command, or the least pair of statement instances that it would reverse does.
 fn one(
     alloc: Global,
     space: &Space,
     values: &[i64],
+    sums: bool,
     step: u32,
     command: &Command,
 ) -> Result<Space, ApplyError>
     requires few { space.now.commands < 32 }
     requires reorders { IsTrue (reorders command.now) }
+    requires moves { frees_sums command.now ≡ false }
     requires fits { IsTrue (command_fits (length values.now) command.now) }
     requires small { All (IsAtMost (2 ^ 20)) values.now }
-    ensures answer { IsAnswer result (one values.now step command.now space.now) }
+    ensures answer { IsAnswer result (one values.now sums step command.now space.now) }
     ensures keeps { IfOk result (λ new. Keeps space.now new) }
     ensures arrays { IfOk result (λ new. new.arrays ≡ space.now.arrays) }
     ensures counted { IfOk result (λ new. new.commands ≡ space.now.commands + 1) }
-    ensures least { IfErr result (StepIsLeast values.now step command.now space.now) }
+    ensures least { IfErr result (StepIsLeast values.now sums step command.now space.now) }
 {
     let new = match changed(alloc, space, values, command) {
         Ok(new) => new,
@@ -99,7 +127,7 @@ fn one(
     };
     space.known();
     new.known();
-    match reversed(alloc, space, &new)? {
+    match turned(alloc, sums, space, &new)? {
         None => Ok(new),
         Some(pair) => Err(illegal(step, pair)),
     }
@@ -109,7 +137,8 @@ fn one(
 /// another, each judged on the program that those before it left. A command is refused by the first
 /// cause that the shape of that program gives, or else by the least pair of conflicting statement
 /// instances, in the order before the command, that it would execute the other way round: such an
-/// order would break a dependence (Wolf and Lam; Feautrier).
+/// order would break a dependence (Wolf and Lam; Feautrier). Behind `accumulate` two additions to
+/// one array don't conflict (Pugh and Wonnacott), since a wrapping sum is the same in any order.
 ///
 /// There is one value, of magnitude at most 2^20, for each parameter. The conditions between the
 /// parameters aren't looked at.
@@ -132,8 +161,13 @@ pub fn apply(
 {
     recipe.known();
     let mut space = space_of(alloc, nest)?;
+    let mut sums = false;
     for (k, command) in recipe.commands.as_slice().iter().enumerate() {
-        space = one(alloc, &space, values, k as u32 + 1, command)?;
+        if frees_sums(command) {
+            sums = true;
+        } else {
+            space = one(alloc, &space, values, sums, k as u32 + 1, command)?;
+        }
     }
     space.known();
     Ok(space)

@@ -1,12 +1,12 @@
 //! One command of a recipe, whether or not the program means the same after it.
 
-ghost use Rattle.std.specs.Prelude.{◌<◌, ◌^◌, length, IsTrue};
+ghost use Rattle.std.specs.Prelude.{◌≡◌, ◌<◌, ◌^◌, false, length, IsTrue};
 ghost use Rattle.std.specs.List.{All};
 ghost use Rattle.ch_affine.specs.Affine.{IsAtMost};
 ghost use Rattle.ch_script.specs.Recipes.{command_fits, condition_fits};
 ghost use Rattle.ch_script.specs.declared.recipe.Command.TheVariants.{Distribute, Fuse, Peel, Permute, Shift, Skew, Split, Unroll};
 ghost use Rattle.ch_script.specs.declared.recipe.Purpose.TheVariants as purposes;
-ghost use Rattle.ch_variant.specs.Commands.{IsStep, reorders};
+ghost use Rattle.ch_variant.specs.Commands.{IsStep, frees_sums, reorders};
 
 use crate::arguments::{number, numbers};
 use ch_affine::Aff;
@@ -148,7 +148,8 @@ fn distributed(
     distribute(alloc, space, pieces.as_slice(), number(values, level))
 }
 
-/// The program after a command that reorders, or the first cause why its shape forbids the command.
+/// The program after a command that gives another order, or the first cause why its shape forbids
+/// the command.
 pub(crate) fn changed(
     alloc: Global,
     space: &Space,
@@ -157,6 +158,7 @@ pub(crate) fn changed(
 ) -> Result<Space, ShapeError>
     requires few { space.now.commands < 32 }
     requires reorders { IsTrue (reorders command.now) }
+    requires moves { frees_sums command.now ≡ false }
     requires fits { IsTrue (command_fits (length values.now) command.now) }
     requires small { All (IsAtMost (2 ^ 20)) values.now }
     ensures { IsStep values.now command.now space.now result }

@@ -1,4 +1,3 @@
-use Rattle.std.proofs.Common.{◌≡◌}
 use Rattle.ch_space.specs.Listed.{Listed}
 use Rattle.ch_variant.specs.Points.{used_values}
 use Rattle.ch_variant.specs.Refusals.{PairIsLeast}

@@ -1,4 +1,3 @@
-use Rattle.std.proofs.Common.{◌≡◌, ◌∙◌, sym, subst}
 use Rattle.ch_variant.proofs.Making.{built_plain}
 use Rattle.ch_variant.proofs.building.original.Goals as goal
 

@@ -1,4 +1,4 @@
-use Rattle.std.proofs.Common.{◌≡◌, ◌∙◌, rules, SFits, w64}
+use Rattle.std.proofs.Common.{◌∙◌, rules, SFits, w64}
 use Rattle.std.proofs.lemmas.Int.{to_z-of_z}
 use Rattle.ch_variant.proofs.CommandSteps.{distributes}
 use Rattle.ch_variant.proofs.commands.distributed.Goals as goal

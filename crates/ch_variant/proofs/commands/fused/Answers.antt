@@ -1,4 +1,4 @@
-use Rattle.std.proofs.Common.{◌≡◌, ◌∙◌, rules, SFits, w64}
+use Rattle.std.proofs.Common.{◌∙◌, rules, SFits, w64}
 use Rattle.std.proofs.lemmas.Int.{to_z-of_z}
 use Rattle.ch_variant.proofs.CommandSteps.{fuses}
 use Rattle.ch_variant.proofs.commands.fused.Goals as goal

@@ -1,4 +1,3 @@
-use Rattle.std.proofs.Common.{◌≡◌}
 use Rattle.ch_variant.specs.Applied.{IsAnswer, applied}
 use Rattle.ch_variant.specs.Judgements.{judged, sizes_of}
 use Rattle.ch_variant.specs.declared.judging.Judgement.{Judgement}

@@ -1,6 +1,5 @@
-use Rattle.std.proofs.Common.{◌≡◌, ◌∙◌, ap, arith, length}
+use Rattle.std.proofs.Common.{ap, arith, length}
 use Rattle.ch_script.specs.Recipes.{RecipeParts}
-use Rattle.ch_variant.proofs.Conditions.{all_forms, condition_at_fits, condition_of, one_form_more}
 use Rattle.ch_variant.proofs.RecipeFacts.{few_params}
 use Rattle.ch_variant.proofs.point.requirements.Goals as goal
 

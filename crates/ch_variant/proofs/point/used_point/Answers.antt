@@ -1,5 +1,5 @@
-use Rattle.std.proofs.Common.{◌≡◌, ◌∙◌}
-use Rattle.ch_variant.proofs.Conditions.{rows_wide, used_in_grid, used_none, used_some}
+use Rattle.std.proofs.Common.{◌∙◌}
+use Rattle.ch_variant.proofs.Conditions.{rows_wide, used_in_grid, used_some}
 use Rattle.ch_variant.proofs.point.used_point.Goals as goal
 
 pub nearest-requires-clause-rows : goal.nearest-requires-clause-rows

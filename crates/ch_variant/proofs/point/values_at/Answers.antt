@@ -1,5 +1,4 @@
-use Rattle.std.proofs.Common.{◌≡◌, ◌∙◌, arith, length, ap, rules, SFits, w64}
-use Rattle.std.specs.List.{All}
+use Rattle.std.proofs.Common.{◌∙◌, arith, length, ap, rules, SFits, w64}
 use Rattle.std.proofs.lemmas.Int.{to_z-of_z}
 use Rattle.ch_grid.proofs.Sizes.{within_facts}
 use Rattle.ch_variant.proofs.GridValues.{all_values, index_inside, one_value_more, point_length, values_length, values_small}
