@@ -1,0 +1,7 @@
+pub mod Rows
+pub mod Points
+pub mod Faults
+pub mod Readings
+pub mod NamesRead
+pub mod SessionsRead
+pub mod ClientsRead
