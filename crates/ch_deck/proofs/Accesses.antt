@@ -47,9 +47,10 @@ get_left [] ys i x h = absurd cc
 get_left (z ∷ zs) ys zero x h = h
 get_left (z ∷ zs) ys (suc i) x h = get_left zs ys i x h
 
-get_right : {X : Type 0} (xs ys : List X) (i : ℕ) (x : X) → slice_get ys i ≡ Some x → slice_get (xs ++ ys) (length xs + i) ≡ Some x
-get_right [] ys i x h = h
-get_right (z ∷ zs) ys i x h = get_right zs ys i x h
+get_right : {X : Type 0} (xs ys : List X) (i j : ℕ) (x : X) → j ≡ length xs + i → slice_get ys i ≡ Some x → slice_get (xs ++ ys) j ≡ Some x
+get_right [] ys i j x e h = let s : i ≡ j = omega (arith, e) in subst (λ k. slice_get ys k ≡ Some x) s h
+get_right (z ∷ zs) ys i zero x e h = absurd (omega (arith, e))
+get_right (z ∷ zs) ys i (suc j) x e h = get_right zs ys i j x (omega (arith, e)) h
 
 -- the statement of an element: its label counts on from k, and its body is the one of that number
 
@@ -95,7 +96,7 @@ items_stand (i ∷ is) h k m e =
           (each_more (Stands q.0 (bodies is)) (Stands k (bodies_of i ++ bodies is)) _ (λ e s. record {
             index = length (bodies_of i) + s.index;
             label = s.label ∙ ap Stmt (omega (arith, here));
-            there = get_right (bodies_of i) (bodies is) s.index e.body s.there;
+            there = get_right (bodies_of i) (bodies is) s.index (length (bodies_of i) + s.index) e.body refl s.there;
           }) (b.1 (p + length (start_item i)) iters vector))),
     )
 
@@ -202,7 +203,8 @@ judged_below nest first access cell known h = by (nat_lt most_work (items_work n
         let e = f.element in
         let o = out_is e.identity (first_leaving (extents_of nest.arrays) e.identity.iters (accesses_before nest.items e.identity.label) (text_accesses e.body)) first access cell f.gives in
         let below = leaving_below (extents_of nest.arrays) e.identity.iters (accesses_before nest.items e.identity.label) (text_accesses e.body) o.0 o.1.0 in
-        let before : accesses_before nest.items e.identity.label ≡ sum (take s.index (map access_count (bodies nest.items))) = ap (accesses_before nest.items) s.label in
+        let number : 0 + s.index ≡ s.index = omega arith in
+        let before : accesses_before nest.items e.identity.label ≡ sum (take s.index (map access_count (bodies nest.items))) = ap (accesses_before nest.items) (s.label ∙ ap Stmt number) in
         let all = before_and_own (bodies nest.items) s.index e.body s.there in
         let total = sum_is (bodies nest.items) in
         let order = ap length (text_order nest.items) in

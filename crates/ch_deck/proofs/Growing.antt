@@ -5,6 +5,7 @@ use Rattle.std.specs.List.{All, list_all}
 use Rattle.std.specs.Option.{option_map_or}
 use Rattle.std.specs.Prelude.{slice_index_or}
 use Rattle.std.proofs.lemmas.Bool.{and_from, and_parts, ltb-true}
+use Rattle.std.proofs.lemmas.List.{length-map}
 use Rattle.std.proofs.lemmas.List.Elements.{All-push}
 use Rattle.std.proofs.lemmas.List.Folds.{list_all-append}
 use Rattle.ch_lex.specs.declared.token.Token.{Token}
@@ -169,3 +170,14 @@ client_kept bytes tokens f c a new is called fits =
       tuned = a.tuned;
       called = rw (list_all-append, before, here) refl;
     }
+
+-- how many there are
+
+pub few_programs : (f : Found) → AreFound f → length f.programs ≤ 16
+few_programs f a = let l = a.programs.few in let e = length-map f.programs (λ (p : ParsedProgram). p.name) in omega (arith, l, e)
+
+pub few_recipes : (f : Found) → AreFound f → length f.recipes ≤ 16
+few_recipes f a = let l = a.recipes.few in let e = length-map f.recipes (λ (r : RecipeParts). r.name) in omega (arith, l, e)
+
+pub few_sessions : (f : Found) → AreFound f → length f.sessions ≤ 8
+few_sessions f a = let l = a.sessions.few in let e = length-map f.sessions (λ (s : Tuned). s.name) in omega (arith, l, e)

@@ -1,5 +1,5 @@
 -- The deck of programs that can be run.
-use Rattle.std.proofs.Common.{◌≡◌, ℕ, ◌+◌, ◌-◌, ◌≤◌, List, [], ◌∷◌, length, map, take, drop, get_or, subst, Option, None, Result, Ok, Err, true, ◌∙◌, refl, sym, ap, arith}
+use Rattle.std.proofs.Common.{◌≡◌, ℕ, suc, ◌+◌, ◌-◌, ◌≤◌, List, [], ◌∷◌, length, map, take, drop, get_or, subst, Option, None, Result, Ok, Err, true, ◌∙◌, refl, sym, ap, arith}
 use Rattle.std.specs.Bool.{IsTrue}
 use Rattle.std.specs.List.{All, list_all}
 use Rattle.std.specs.Prelude.{IfOk}
@@ -36,10 +36,10 @@ arrays_of (p ∷ ps) = ap (λ t. length p.nest.arrays ∷ t) (arrays_of ps)
 
 as_many : (ps : List ParsedProgram) → length (map program_of ps) ≡ length ps
 as_many [] = refl
-as_many (p ∷ ps) = ap (λ n. n + 1) (as_many ps)
+as_many (p ∷ ps) = ap suc (as_many ps)
 
 all_tail : {X : Type 0} (P : X → Type 0) (x : X) (xs : List X) → All P (x ∷ xs) → P x × All P xs
-all_tail P x xs h = (h 0 x (omega arith), λ k d l. h (k + 1) d (omega (arith, l)))
+all_tail P x xs h = (h 0 x (omega arith), λ k d l. h (suc k) d (omega (arith, l)))
 
 each_program : (ps : List ParsedProgram) → All IsRead ps → All IsSound ps → list_all is_name (program_names ps) ≡ true → All IsProgram (map program_of ps)
 each_program [] r s n = All-nil IsProgram

@@ -65,6 +65,7 @@ fn behind_word<'t>(source: &Source<'t>, found: &Found) -> &'t [Token]
 }
 
 /// What sessions and clients may name.
+#[tactic(auto, using(crate::proofs::Growing::few_programs, crate::proofs::Growing::few_recipes, crate::proofs::Growing::few_sessions))]
 fn known(found: &Found) -> Declared<'_>
     requires { AreFound found.now }
     ensures programs { result.programs.now ≡ found.now.programs }

@@ -1,5 +1,6 @@
 pub mod Rows
 pub mod Points
+pub mod Admissible
 pub mod Faults
 pub mod Readings
 pub mod NamesRead

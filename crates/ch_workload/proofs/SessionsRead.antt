@@ -32,7 +32,7 @@ use Rattle.ch_workload.proofs.Readings.{Told, from_left, number_left, told_admit
 module _ (bytes : List ℕ) where
   -- a keyword, which leaves no more tokens than there were
   pub word_left : (k : Keyword) (n : ℕ) (ts : List Token) → Left bytes n ts → Placed bytes (Left bytes n) (keyword_at bytes D2 k ts)
-  word_left k n ts h = placed_map bytes (λ rest g. left_within bytes (n - 1) n rest (omega arith) g.1) (keyword_left bytes D2 k n ts h)
+  word_left k n ts h = placed_map bytes {P = λ rest. (1 ≤ n) × Left bytes (n - 1) rest} {Q = Left bytes n} (λ rest g. left_within bytes (n - 1) n rest (omega arith) g.1) (keyword_left bytes D2 k n ts h)
 
   -- parameters
 

@@ -77,3 +77,8 @@ some_point test (p ∷ ps) chosen = some_below (size p) (λ x. some_point test p
 -- some point of the grid meets all conditions
 abbrev pub has_admissible : List Cond → List Param → Bool
 has_admissible conditions params = some_point (are_met (requirements (length params) conditions)) params []
+
+-- the parameters' values at a point of the grid
+abbrev pub values : List Param → List ℕ → List ℤ
+values (p ∷ ps) (x ∷ xs) = value_at p x ∷ values ps xs
+values _ _ = []

@@ -1,23 +1,21 @@
 -- A session section: `session`, a name, and in braces its program, its recipe, the ranges of the recipe's parameters, and how often
 -- each trial is measured.
-use Rattle.std.specs.Prelude.{ℕ, ◌+◌, ◌-◌, Bool, false, ◌&&◌, nat_eq, nat_le, nat_lt, codes, List, [], length, drop, slice_get, Option, Some, None, Result, Ok}
+use Rattle.std.specs.Prelude.{ℕ, ◌-◌, Bool, false, ◌&&◌, nat_eq, nat_le, nat_lt, codes, List, [], length, drop, slice_get, Result, Ok}
 use Rattle.std.specs.Option.{option_map_or}
 use Rattle.std.specs.Str.{bytes_eq}
 use Rattle.ch_grid.specs.declared.param.Param.{Param}
 use Rattle.ch_grid.specs.Grid.{sizes}
 use Rattle.ch_grid.specs.Points.{count}
 use Rattle.ch_lex.specs.declared.error.Code2.TheVariants.{D2, D4, D5}
-use Rattle.ch_lex.specs.declared.keyword.Keyword.TheVariants as words
 use Rattle.ch_lex.specs.declared.token.Sign.TheVariants as signs
 use Rattle.ch_lex.specs.declared.token.Token.{Token}
 use Rattle.ch_nestparse.specs.declared.program.ParsedProgram.{ParsedProgram}
-use Rattle.ch_nestparse.specs.Read as reading
-use Rattle.ch_nestparse.specs.Read.{Read, choose, if_on, keyword_at, name_at, number_at, place, seen, sign_at, text_at}
+use Rattle.ch_nestparse.specs.Read.{choose, if_on, number_at, place, seen, sign_at, text_at}
 use Rattle.ch_script.specs.Recipes.{RecipeParts, recipe_of}
 use Rattle.ch_workload.specs.declared.error.DeckCode.TheVariants.{Plain, D13, D14}
 use Rattle.ch_workload.specs.declared.error.SectionError.{SectionError}
 use Rattle.ch_workload.specs.declared.session.ParsedSession.{ParsedSession}
-use Rattle.ch_workload.specs.Headings.{Heading, heading_at}
+use Rattle.ch_workload.specs.Headings.{heading_at}
 use Rattle.ch_workload.specs.Limits.{most_points}
 use Rattle.ch_workload.specs.Params.{params_at}
 use Rattle.ch_workload.specs.Refusals.{◌>>=◌, admitted, lifted}

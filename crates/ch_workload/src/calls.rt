@@ -27,10 +27,9 @@ pub struct Called {
 
 /// Whether a line may make so many calls behind lines that make `total`.
 fn is_count(total: u32, times: u32) -> bool
-    requires { total ≤ 10000 }
     ensures { result ≡ is_count total times }
 {
-    1 <= times && times <= MOST_CALLS - total
+    1 <= times && u64::from(total) + u64::from(times) <= MOST_CALLS
 }
 
 /// The lines of calls.

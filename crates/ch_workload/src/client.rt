@@ -73,8 +73,9 @@ fn read_client<'a>(
     let (fills, rest) = fills(scope, rest)?;
     let (called, rest) = calls(scope, rest)?;
     let rest = sign(bytes, Code2::D2, Sign::RightBrace, rest)?;
+    let name = Text::of(scope.alloc, text)?;
     let client = Script {
-        name: Text::of(scope.alloc, text)?,
+        name,
         patient,
         machine,
         fills,

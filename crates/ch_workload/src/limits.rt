@@ -4,4 +4,4 @@
 pub(crate) const MOST_REPEATS: u32 = 9;
 
 /// Calls of one client.
-pub(crate) const MOST_CALLS: u32 = 10_000;
+pub(crate) const MOST_CALLS: u64 = 10_000;
