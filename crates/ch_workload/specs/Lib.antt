@@ -1,0 +1,13 @@
+pub mod Limits
+pub mod Refusals
+pub mod Inside
+pub mod Names
+pub mod Params
+pub mod Requirements
+pub mod Tuned
+pub mod Headings
+pub mod Sessions
+pub mod Machines
+pub mod Fills
+pub mod Calls
+pub mod Clients
