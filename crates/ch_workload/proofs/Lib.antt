@@ -1,6 +1,4 @@
-pub mod Rows
-pub mod Points
-pub mod Admissible
+pub mod Admitted
 pub mod Faults
 pub mod Readings
 pub mod NamesRead

@@ -23,7 +23,7 @@ use Rattle.ch_workload.specs.Headings.{heading_at, program_line_at, recipe_line_
 use Rattle.ch_workload.specs.Inside.{IsWithin}
 use Rattle.ch_workload.specs.Params.{begins_param, is_named, param_at, params_at, range_at}
 use Rattle.ch_workload.specs.Refusals.{Fails, lifted}
-use Rattle.ch_workload.specs.Requirements.{has_admissible}
+use Rattle.ch_workload.specs.Admissible.{has_admissible}
 use Rattle.ch_workload.specs.Sessions.{begins_repeat, closed_at, has_few_points, numbered, repeats_at, session_at, times_at}
 use Rattle.ch_workload.specs.Tuned.{Tuned, are_repeats, tuned}
 use Rattle.ch_workload.proofs.NamesRead.{program_left, recipe_left}

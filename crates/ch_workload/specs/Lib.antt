@@ -3,7 +3,7 @@ pub mod Refusals
 pub mod Inside
 pub mod Names
 pub mod Params
-pub mod Requirements
+pub mod Admissible
 pub mod Tuned
 pub mod Headings
 pub mod Sessions

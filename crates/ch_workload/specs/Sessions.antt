@@ -19,7 +19,7 @@ use Rattle.ch_workload.specs.Headings.{heading_at}
 use Rattle.ch_workload.specs.Limits.{most_points}
 use Rattle.ch_workload.specs.Params.{params_at}
 use Rattle.ch_workload.specs.Refusals.{◌>>=◌, admitted, lifted}
-use Rattle.ch_workload.specs.Requirements.{has_admissible}
+use Rattle.ch_workload.specs.Admissible.{has_admissible}
 use Rattle.ch_workload.specs.Tuned.{Tuned, are_repeats, tuned}
 
 -- the recipe of a number; a number past the list, which no name stands for, has none of its parts

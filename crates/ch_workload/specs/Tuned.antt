@@ -10,14 +10,14 @@ pub record Tuned : Type 0 where
   pub program : ℕ
   pub recipe : ℕ
   pub params : List Param
-  pub repeats : ℕ
+  pub repeat : ℕ
 
 abbrev pub tuned : List ℕ → ℕ → ℕ → List Param → ℕ → Tuned
-tuned name program recipe params repeats =
-    record { name = name; program = program; recipe = recipe; params = params; repeats = repeats }
+tuned name program recipe params repeat =
+    record { name = name; program = program; recipe = recipe; params = params; repeat = repeat }
 
 abbrev pub are_repeats : ℕ → Bool
 are_repeats n = nat_le 1 n && nat_le n most_repeats
 
 abbrev pub is_tuned : Tuned → Bool
-is_tuned s = is_within s.params && are_repeats s.repeats
+is_tuned s = is_within s.params && are_repeats s.repeat

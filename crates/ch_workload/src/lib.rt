@@ -3,8 +3,9 @@
 //! A session names a program, a recipe and a grid of values for the recipe's parameters. A client is a
 //! list of calls of sessions, with a machine on which their costs are counted. What they name was
 //! declared before them in the deck.
-#![tactic(auto)]
+#![tactic(none)]
 
+mod admissible;
 mod calls;
 mod client;
 mod error;
@@ -15,7 +16,6 @@ mod limits;
 mod machine;
 mod names;
 mod params;
-mod requirements;
 mod session;
 
 pub use calls::CallDecl;

@@ -18,7 +18,7 @@ use crate::headings::begun;
 use crate::limits::MOST_REPEATS;
 use crate::names::{Declared, Scope};
 use crate::params::params;
-use crate::requirements::has_admissible;
+use crate::admissible::has_admissible;
 use ch_affine::{List, Text};
 use ch_grid::{Grid, Param};
 use ch_lex::{Code2, Sign, Token};
@@ -40,7 +40,7 @@ pub struct SessionDecl {
     /// The values of the recipe's parameters, in their order.
     pub grid: Grid,
     /// How often each trial is measured.
-    pub repeats: u32,
+    pub repeat: u32,
 }
 
 impl Model for SessionDecl {
@@ -52,9 +52,9 @@ impl Model for SessionDecl {
 
     ghost coded = { Prim.hlevel codes };
 
-    ghost view = { λ s. tuned s.name s.program s.recipe s.grid.params s.repeats };
+    ghost view = { λ s. tuned s.name s.program s.recipe s.grid.params s.repeat };
 
-    ghost invariant = { λ s. IsTrue (is_tuned (tuned s.name s.program s.recipe s.grid.params s.repeats)) };
+    ghost invariant = { λ s. IsTrue (is_tuned (tuned s.name s.program s.recipe s.grid.params s.repeat)) };
 }
 
 impl SessionDecl {
@@ -184,14 +184,14 @@ fn read_session<'a>(
     let recipe = numbered(scope.recipes, heading.recipe);
     recipe.known();
     let (params, rest) = params(scope.alloc, scope.bytes, recipe.params.as_slice(), rest)?;
-    let (repeats, rest) = repeats(scope.bytes, rest)?;
+    let (repeat, rest) = repeats(scope.bytes, rest)?;
     let (grid, rest) = closed(scope, recipe, params, rest)?;
     let session = SessionDecl {
         name: heading.name,
         program: heading.program,
         recipe: heading.recipe,
         grid,
-        repeats,
+        repeat,
     };
     Ok((session, rest))
 }
