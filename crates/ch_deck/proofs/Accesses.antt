@@ -22,7 +22,6 @@ use Rattle.ch_space.proofs.Bodies.{nest_numbered}
 use Rattle.ch_space.proofs.Short.{numbered_assign, numbered_if, numbered_loop}
 use Rattle.ch_space.proofs.Subscripted.{assign_bodies, if_bodies, loop_bodies}
 use Rattle.ch_space.specs.Judged.{access_count, accesses_before, bodies, bodies_of, first_leaving, first_of, judgement, leaving, leaving_if, or_else, out_of_range, text_accesses}
-use Rattle.ch_space.specs.declared.accesses.Leaving.{Leaving}
 use Rattle.ch_space.specs.declared.error.SpaceError.{SpaceError}
 use Rattle.ch_space.specs.declared.error.SpaceError.TheVariants.{TooMany, OutOfRange}
 use Rattle.ch_timed.specs.Conflict.{cell_of}
@@ -163,22 +162,14 @@ found_first P f (x ∷ xs) r h e = by (f x) refl e
     by (Some s) g d = record { element = x; fact = h.0; gives = g ∙ d }
     by None g d = found_first P f xs r h.1 d
 
-leaving_below : (extents : List (List ℕ)) (iters : List ℤ) (k : ℕ) (accesses : List Access) (l : Leaving) → first_leaving extents iters k accesses ≡ Some l → l.access < k + length accesses
-leaving_below extents iters k [] l h = absurd cc
-leaving_below extents iters k (a ∷ more) l h = by (access_inside extents iters a) h
+leaving_below : (extents : List (List ℕ)) (iters : List ℤ) (i first : Identity) (access : ℕ) (cell : Cell) (k : ℕ) (accesses : List Access)
+    → out_of_range i (first_leaving extents iters k accesses) ≡ Some (OutOfRange first access cell) → access < k + length accesses
+leaving_below extents iters i first access cell k [] h = absurd cc
+leaving_below extents iters i first access cell k (a ∷ more) h = by (access_inside extents iters a) h
   where
-    by : (b : Bool) → leaving_if b k (cell_of iters a) (first_leaving extents iters (suc k) more) ≡ Some l → l.access < k + suc (length more)
-    by true e = let r = leaving_below extents iters (suc k) more l e in omega (arith, r)
-    by false e = let s : k ≡ l.access = ap (λ o. number o) e in omega (arith, s)
-      where
-        number : Option Leaving → ℕ
-        number (Some x) = x.access
-        number None = k
-
-out_is : (i : Identity) (o : Option Leaving) (first : Identity) (access : ℕ) (cell : Cell) → out_of_range i o ≡ Some (OutOfRange first access cell)
-    → (l : Leaving) × ((o ≡ Some l) × (l.access ≡ access))
-out_is i None first access cell h = absurd cc
-out_is i (Some l) first access cell h = (l, (refl, cc))
+    by : (b : Bool) → out_of_range i (leaving_if b k (cell_of iters a) (first_leaving extents iters (suc k) more)) ≡ Some (OutOfRange first access cell) → access < k + suc (length more)
+    by true e = let r = leaving_below extents iters i first access cell (suc k) more e in omega (arith, r)
+    by false e = let s : k ≡ access = cc in omega (arith, s)
 
 before_and_own : (bs : List Body) (n : ℕ) (b : Body) → slice_get bs n ≡ Some b → sum (take n (map access_count bs)) + access_count b ≤ sum (map access_count bs)
 before_and_own [] n b h = absurd cc
@@ -201,15 +192,13 @@ judged_below nest first access cell known h = by (nat_lt most_work (items_work n
     at_element f =
         let s = f.fact in
         let e = f.element in
-        let o = out_is e.identity (first_leaving (extents_of nest.arrays) e.identity.iters (accesses_before nest.items e.identity.label) (text_accesses e.body)) first access cell f.gives in
-        let below = leaving_below (extents_of nest.arrays) e.identity.iters (accesses_before nest.items e.identity.label) (text_accesses e.body) o.0 o.1.0 in
+        let below = leaving_below (extents_of nest.arrays) e.identity.iters e.identity first access cell (accesses_before nest.items e.identity.label) (text_accesses e.body) f.gives in
         let number : 0 + s.index ≡ s.index = omega arith in
         let before : accesses_before nest.items e.identity.label ≡ sum (take s.index (map access_count (bodies nest.items))) = ap (accesses_before nest.items) (s.label ∙ ap Stmt number) in
         let all = before_and_own (bodies nest.items) s.index e.body s.there in
         let total = sum_is (bodies nest.items) in
         let order = ap length (text_order nest.items) in
-        let same = o.1.1 in
-        omega (arith, below, before, all, total, order, same)
+        omega (arith, below, before, all, total, order)
 
     by : (many : Bool) → (if many then Some TooMany else first_of (leaving nest) (start nest)) ≡ Some (OutOfRange first access cell) → access < length (text.text_accesses nest.items)
     by true e = absurd cc

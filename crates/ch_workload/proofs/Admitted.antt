@@ -34,7 +34,8 @@ requirement_long n c = required_long n c.relation c.left c.right
 pub first_inside : (ps : List Param) → is_point (sizes ps) (first_point ps) ≡ true
 first_inside [] = refl
 first_inside (p ∷ ps) =
-    let some : 0 < size p = size_some p in
+    let one = size_some p in
+    let some : 0 < size p = omega (arith, one) in
     and_from (nat_lt 0 (size p)) (is_point (sizes ps) (first_point ps)) (lt-ltb 0 (size p) some) (first_inside ps)
 
 -- what is found is an admissible point, and there is one where one is found

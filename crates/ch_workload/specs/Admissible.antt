@@ -1,5 +1,5 @@
 -- Whether some point of a grid is admissible: whether the conditions between its parameters hold at the point's values.
-use Rattle.std.specs.Prelude.{ℕ, Bool, List, length, map}
+use Rattle.std.specs.Prelude.{ℕ, Bool, List, length, map, replicate}
 use Rattle.std.specs.Option.{is_some}
 use Rattle.ch_affine.specs.Form.{Form}
 use Rattle.ch_constrain.specs.Nearest.{nearest}
@@ -13,7 +13,7 @@ requirements params conditions = map (requirement params) conditions
 
 -- the point with the low end of each range
 abbrev pub first_point : List Param → List ℕ
-first_point params = map (λ _. 0) params
+first_point params = replicate (length params) 0
 
 -- there is an admissible point that is nearest to the first one
 unfoldable pub has_admissible : List Cond → List Param → Bool

@@ -7,7 +7,7 @@ ghost use Rattle.ch_workload.specs.Admissible.{first_point, has_admissible, requ
 
 use ch_affine::{Aff, List};
 use ch_constrain::nearest;
-use ch_grid::{Grid, Param};
+use ch_grid::Grid;
 use ch_script::{Cond, requirement_of};
 use std::alloc::{AllocError, Global};
 
@@ -28,14 +28,11 @@ fn requirements(alloc: Global, params: u32, conditions: &[Cond]) -> Result<List<
 }
 
 /// The point with the low end of each range.
-fn first_point(alloc: Global, params: &[Param]) -> Result<List<u32>, AllocError>
-    ensures { IfOk result (λ point. point ≡ first_point params.now) }
+fn first_point(alloc: Global, grid: &Grid) -> Result<List<u32>, AllocError>
+    ensures { IfOk result (λ point. point ≡ first_point grid.now.params) }
 {
-    let mut point = List::with_capacity(alloc, params.len())?;
-    for _param in params {
-        point.push(0)?;
-    }
-    Ok(point)
+    let zeros = vec![in alloc; 0u32; grid.params.len()]?;
+    Ok(List::from_vec(zeros))
 }
 
 /// Whether some point of the grid meets all conditions between its parameters.
@@ -49,7 +46,7 @@ pub(crate) fn has_admissible(
     ensures { IfOk result (λ found. found ≡ has_admissible conditions.now grid.now.params) }
 {
     let rows = requirements(alloc, grid.params.len() as u32, conditions)?;
-    let first = first_point(alloc, grid.params.as_slice())?;
+    let first = first_point(alloc, grid)?;
     let found = nearest(alloc, grid, rows.as_slice(), first.as_slice())?;
     Ok(found.is_some())
 }

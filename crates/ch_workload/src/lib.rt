@@ -3,7 +3,7 @@
 //! A session names a program, a recipe and a grid of values for the recipe's parameters. A client is a
 //! list of calls of sessions, with a machine on which their costs are counted. What they name was
 //! declared before them in the deck.
-#![tactic(none)]
+#![tactic(auto)]
 
 mod admissible;
 mod calls;
