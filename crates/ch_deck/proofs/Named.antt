@@ -133,7 +133,7 @@ abbrev Gives : {X : Type 0} → (X → Type 0) → Result X SectionError → Typ
 Gives {X = X} P r = (x : X) → r ≡ Ok x → P x
 
 gives_ok : {X : Type 0} (P : X → Type 0) (x : X) → P x → Gives P (Ok x)
-gives_ok P x p y e = let s : x ≡ y = cc in rw (← s) p
+gives_ok P x p y e = let s : x ≡ y = cc in subst P s p
 
 gives_bind : {A B : Type 0} {P : A → Type 0} {Q : B → Type 0} {r : Result A SectionError} {f : A → Result B SectionError} → Gives P r → ((x : A) → P x → Gives Q (f x)) → Gives Q (r >>= f)
 gives_bind {r = Ok x} p q y h = q x (p x refl) y h
