@@ -156,33 +156,46 @@ record IsFound (P : Element → Type 0) (f : Element → Option SpaceError) (r :
 
 found_first : (P : Element → Type 0) (f : Element → Option SpaceError) (es : List Element) (r : SpaceError) → Each P es → first_of f es ≡ Some r → IsFound P f r
 found_first P f [] r h e = absurd cc
-found_first P f (x ∷ xs) r h e = by (f x) refl e
+found_first P f (x ∷ xs) r h e = by (f x) refl e (found_first P f xs r h.1)
   where
-    by : (o : Option SpaceError) → f x ≡ o → or_else o (first_of f xs) ≡ Some r → IsFound P f r
-    by (Some s) g d = record { element = x; fact = h.0; gives = g ∙ d }
-    by None g d = found_first P f xs r h.1 d
+    by : (o : Option SpaceError) → f x ≡ o → or_else o (first_of f xs) ≡ Some r → (first_of f xs ≡ Some r → IsFound P f r) → IsFound P f r
+    by (Some s) g d more = record { element = x; fact = h.0; gives = g ∙ d }
+    by None g d more = more d
 
 leaving_below : (extents : List (List ℕ)) (iters : List ℤ) (i first : Identity) (access : ℕ) (cell : Cell) (k : ℕ) (accesses : List Access)
     → out_of_range i (first_leaving extents iters k accesses) ≡ Some (OutOfRange first access cell) → access < k + length accesses
 leaving_below extents iters i first access cell k [] h = absurd cc
-leaving_below extents iters i first access cell k (a ∷ more) h = by (access_inside extents iters a) h
+leaving_below extents iters i first access cell k (a ∷ more) h = by (access_inside extents iters a) h (leaving_below extents iters i first access cell (suc k) more)
   where
-    by : (b : Bool) → out_of_range i (leaving_if b k (cell_of iters a) (first_leaving extents iters (suc k) more)) ≡ Some (OutOfRange first access cell) → access < k + suc (length more)
-    by true e = let r = leaving_below extents iters i first access cell (suc k) more e in omega (arith, r)
-    by false e = let s : k ≡ access = cc in omega (arith, s)
+    by : (b : Bool) → out_of_range i (leaving_if b k (cell_of iters a) (first_leaving extents iters (suc k) more)) ≡ Some (OutOfRange first access cell)
+        → (out_of_range i (first_leaving extents iters (suc k) more) ≡ Some (OutOfRange first access cell) → access < suc k + length more) → access < k + suc (length more)
+    by true e rest = let r = rest e in omega (arith, r)
+    by false e rest = let s : k ≡ access = cc in omega (arith, s)
 
 before_and_own : (bs : List Body) (n : ℕ) (b : Body) → slice_get bs n ≡ Some b → sum (take n (map access_count bs)) + access_count b ≤ sum (map access_count bs)
 before_and_own [] n b h = absurd cc
-before_and_own (x ∷ xs) zero b h = let s : access_count x ≡ access_count b = ap count h in omega (arith, s)
+before_and_own (x ∷ xs) zero b h =
+    let s : access_count x ≡ access_count b = ap count h in
+    let none : sum (take 0 (map access_count (x ∷ xs))) ≡ 0 = refl in
+    let all : sum (map access_count (x ∷ xs)) ≡ access_count x + sum (map access_count xs) = refl in
+    omega (arith, s, none, all)
   where
     count : Option Body → ℕ
     count (Some y) = access_count y
     count None = 0
-before_and_own (x ∷ xs) (suc n) b h = let r = before_and_own xs n b h in omega (arith, r)
+before_and_own (x ∷ xs) (suc n) b h =
+    let r = before_and_own xs n b h in
+    let front : sum (take (suc n) (map access_count (x ∷ xs))) ≡ access_count x + sum (take n (map access_count xs)) = refl in
+    let all : sum (map access_count (x ∷ xs)) ≡ access_count x + sum (map access_count xs) = refl in
+    omega (arith, r, front, all)
 
 sum_is : (bs : List Body) → sum (map access_count bs) ≡ length (flat_map text_accesses bs)
 sum_is [] = refl
-sum_is (b ∷ bs) = let h = sum_is bs in let l = length-append (text_accesses b) (flat_map text_accesses bs) in omega (arith, h, l)
+sum_is (b ∷ bs) =
+    let h = sum_is bs in
+    let l = length-append (text_accesses b) (flat_map text_accesses bs) in
+    let all : sum (map access_count (b ∷ bs)) ≡ access_count b + sum (map access_count bs) = refl in
+    omega (arith, h, l, all)
 
 judged_below : (nest : LoopNest) (first : Identity) (access : ℕ) (cell : Cell) → IsTrue (is_nest nest) → judgement nest ≡ Some (OutOfRange first access cell)
     → access < length (text.text_accesses nest.items)

@@ -1,5 +1,5 @@
 -- A grid has an admissible point where one of its points meets all conditions.
-use Rattle.std.proofs.Common.{◌≡◌, refl, ℕ, ◌<◌, Bool, true, false, nat_lt, Option, Some, None, MatchOption, List, [], ◌∷◌, length, map, lt-ltb, arith}
+use Rattle.std.proofs.Common.{◌≡◌, refl, sym, ap₂, ◌∙◌, ℕ, ◌+◌, ◌<◌, Bool, true, false, nat_lt, Option, Some, None, MatchOption, List, [], ◌∷◌, ◌++◌, length, drop, get_or, map, append_assoc, add-one, drop-cons, lt-ltb, arith}
 use Rattle.std.specs.Bool.{IsTrue}
 use Rattle.std.specs.List.{range_with_len}
 use Rattle.std.specs.Option.{is_some}
@@ -29,6 +29,14 @@ required_long n AtLeast left right = length-map-range_with_len (weight_between l
 
 pub requirement_long : (n : ℕ) (c : Cond) → length (requirement n c).coefs ≡ n
 requirement_long n c = required_long n c.relation c.left c.right
+
+-- one condition more
+pub rows_more : (n k : ℕ) (cs : List Cond) (c : Cond) (rows new : List Form) (row : Form) → k < length cs → c ≡ get_or cs k c → row ≡ requirement n c → new ≡ rows ++ row ∷ []
+    → rows ++ requirements n (drop k cs) ≡ requirements n cs → new ++ requirements n (drop (k + 1) cs) ≡ requirements n cs
+rows_more n k cs c rows new row l e r p h =
+    let d : drop k cs ≡ c ∷ drop (k + 1) cs = drop-cons cs k c l ∙ ap₂ (λ x i. x ∷ drop i cs) (sym e) (sym (add-one k)) in
+    let a : rows ++ requirement n c ∷ requirements n (drop (k + 1) cs) ≡ requirements n cs = rw d at h in
+    rw (p, r) (append_assoc rows (requirement n c ∷ []) (requirements n (drop (k + 1) cs)) ∙ a)
 
 -- the first point is one of the grid
 pub first_inside : (ps : List Param) → is_point (sizes ps) (first_point ps) ≡ true

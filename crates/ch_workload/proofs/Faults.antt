@@ -1,10 +1,10 @@
 -- What a grid is refused for, and what is known of recipes and nests.
-use Rattle.std.proofs.Common.{◌≡◌, refl, sym, ap, ◌∙◌, ℕ, zero, suc, ◌<◌, ◌≤◌, pos, Bool, true, false, not, ◌&&◌, cond, nat_le, nat_lt, List, [], ◌∷◌, length, slice_get, get_or, Option, Some, None, lt-ltb, arith}
+use Rattle.std.proofs.Common.{◌≡◌, refl, sym, ap, ◌∙◌, subst, ℕ, zero, suc, ◌+◌, ◌<◌, ◌≤◌, pos, Bool, true, false, not, ◌&&◌, cond, nat_le, nat_lt, List, [], ◌∷◌, ◌++◌, length, length-append, slice_get, get_or, Option, Some, None, lt-ltb, arith}
 use Rattle.std.specs.Bool.{IsTrue}
 use Rattle.std.specs.List.{list_all, position}
 use Rattle.std.specs.Option.{option_map_or, is_some}
 use Rattle.std.proofs.lemmas.Bool.{and_from, and_parts, leb-true}
-use Rattle.std.proofs.lemmas.List.Folds.{list_all_at}
+use Rattle.std.proofs.lemmas.List.Folds.{list_all-append, list_all_at}
 use Rattle.std.proofs.lemmas.List.Quantifiers.{position-Some}
 use Rattle.ch_grid.specs.declared.grid.GridError.{GridError}
 use Rattle.ch_grid.specs.declared.grid.GridError.TheVariants.{BadParam, TooManyPoints}
@@ -20,6 +20,7 @@ use Rattle.ch_nestparse.proofs.Cells.{some_cells}
 use Rattle.ch_script.specs.Limits.{most_commands, most_conditions as most_requires, most_params}
 use Rattle.ch_script.specs.Recipes.{RecipeParts, command_fits, condition_fits, is_recipe}
 use Rattle.ch_script.specs.declared.recipe.Purpose.TheVariants.{Require}
+use Rattle.ch_workload.specs.Params.{is_named}
 use Rattle.ch_workload.specs.Sessions.{grid_fits, has_few_points, numbered, session_fits}
 use Rattle.ch_workload.specs.Tuned.{Tuned}
 
@@ -93,6 +94,23 @@ alone_good ps p s e = good_by p None (sym (ap fault_of s) ∙ e) (λ at h. cc)
 
 pub alone_many : (ps : List Param) (p : Param) → ps ≡ p ∷ [] → fault_of ps ≡ Some TooManyPoints → true ≡ is_good p
 alone_many ps p s e = good_by p (Some TooManyPoints) (sym (ap fault_of s) ∙ e) (λ at h. cc)
+
+-- one parameter more, whose name is the next one
+
+named_there : (names : List (List ℕ)) (k : ℕ) (text : List ℕ) → is_named names k text ≡ true → k < length names
+named_there [] k text h = absurd cc
+named_there (n ∷ ns) zero text h = omega arith
+named_there (n ∷ ns) (suc k) text h = let r = named_there ns k text h in omega (arith, r)
+
+pub params_more : (names : List (List ℕ)) (ps new : List Param) (k : ℕ) (text : List ℕ) (p : Param) → (length ps ≤ length names) × IsTrue (list_all is_good ps)
+    → new ≡ ps ++ p ∷ [] → k ≡ length ps → is_named names k text ≡ true → is_good p ≡ true → (length new ≤ length names) × IsTrue (list_all is_good new)
+params_more names ps new k text p kept pushed count named good =
+    let there = named_there names k text named in
+    let more : length (ps ++ p ∷ []) ≡ length ps + 1 = length-append ps (p ∷ []) in
+    let few : length (ps ++ p ∷ []) ≤ length names = omega (arith, there, more, count) in
+    let before : list_all is_good ps ≡ true = kept.1 in
+    let all : list_all is_good (ps ++ p ∷ []) ≡ true = rw (list_all-append, before, good) refl in
+    (subst (λ qs. length qs ≤ length names) (sym pushed) few, subst (λ qs. list_all is_good qs ≡ true) (sym pushed) all)
 
 -- recipes
 

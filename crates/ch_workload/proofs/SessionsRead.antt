@@ -1,5 +1,5 @@
 -- A session section that was read: its name is a name, and a token was taken; each refusal names a place of the text.
-use Rattle.std.proofs.Common.{◌≡◌, ℕ, ◌+◌, ◌-◌, ◌≤◌, Bool, true, List, [], ◌∷◌, ◌++◌, length, drop, nat_eq, Ok, Err, Result, refl, arith}
+use Rattle.std.proofs.Common.{◌≡◌, ℕ, ◌+◌, ◌-◌, ◌≤◌, Bool, true, false, List, [], ◌∷◌, ◌++◌, length, drop, nat_eq, Ok, Err, Result, refl, arith}
 use Rattle.std.specs.Bool.{IsTrue}
 use Rattle.ch_grid.specs.declared.param.Param.{Param}
 use Rattle.ch_grid.specs.Grid.{is_good}

@@ -68,7 +68,10 @@ fn read_client<'a>(
     let rest = keyword(bytes, Code2::D2, Keyword::Client, tokens)?;
     let (text, rest) = name(bytes, Code2::D2, rest)?;
     let (patient, rest) = patience(bytes, rest)?;
-    let (machine, rest) = machine(bytes, rest)?;
+    let (machine, rest) = match machine(bytes, rest) {
+        Ok(found) => found,
+        Err(error) => return Err(error),
+    };
     let rest = sign(bytes, Code2::D2, Sign::LeftBrace, rest)?;
     let (fills, rest) = fills(scope, rest)?;
     let (called, rest) = calls(scope, rest)?;
