@@ -4,6 +4,7 @@ use Rattle.std.specs.Bool.{IsTrue}
 use Rattle.std.specs.List.{flat_map, slice_get, sum}
 use Rattle.std.specs.Option.{is_some}
 use Rattle.std.proofs.lemmas.Bool.{and_parts, eqb-true}
+use Rattle.std.proofs.lemmas.List.Sums.{sum_by-cons}
 use Rattle.ch_affine.specs.Form.{Form}
 use Rattle.ch_nest.specs.Arrays.{extents_of}
 use Rattle.ch_nest.specs.Limits.{most_statements, most_work}
@@ -177,7 +178,7 @@ before_and_own [] n b h = absurd cc
 before_and_own (x ∷ xs) zero b h =
     let s : access_count x ≡ access_count b = ap count h in
     let none : sum (take 0 (map access_count (x ∷ xs))) ≡ 0 = refl in
-    let all : sum (map access_count (x ∷ xs)) ≡ access_count x + sum (map access_count xs) = refl in
+    let all : sum (map access_count (x ∷ xs)) ≡ access_count x + sum (map access_count xs) = sum_by-cons (λ k. k) (access_count x) (map access_count xs) in
     omega (arith, s, none, all)
   where
     count : Option Body → ℕ
@@ -185,8 +186,8 @@ before_and_own (x ∷ xs) zero b h =
     count None = 0
 before_and_own (x ∷ xs) (suc n) b h =
     let r = before_and_own xs n b h in
-    let front : sum (take (suc n) (map access_count (x ∷ xs))) ≡ access_count x + sum (take n (map access_count xs)) = refl in
-    let all : sum (map access_count (x ∷ xs)) ≡ access_count x + sum (map access_count xs) = refl in
+    let front : sum (take (suc n) (map access_count (x ∷ xs))) ≡ access_count x + sum (take n (map access_count xs)) = sum_by-cons (λ k. k) (access_count x) (take n (map access_count xs)) in
+    let all : sum (map access_count (x ∷ xs)) ≡ access_count x + sum (map access_count xs) = sum_by-cons (λ k. k) (access_count x) (map access_count xs) in
     omega (arith, r, front, all)
 
 sum_is : (bs : List Body) → sum (map access_count bs) ≡ length (flat_map text_accesses bs)
@@ -194,7 +195,7 @@ sum_is [] = refl
 sum_is (b ∷ bs) =
     let h = sum_is bs in
     let l = length-append (text_accesses b) (flat_map text_accesses bs) in
-    let all : sum (map access_count (b ∷ bs)) ≡ access_count b + sum (map access_count bs) = refl in
+    let all : sum (map access_count (b ∷ bs)) ≡ access_count b + sum (map access_count bs) = sum_by-cons (λ k. k) (access_count b) (map access_count bs) in
     omega (arith, h, l, all)
 
 judged_below : (nest : LoopNest) (first : Identity) (access : ℕ) (cell : Cell) → IsTrue (is_nest nest) → judgement nest ≡ Some (OutOfRange first access cell)

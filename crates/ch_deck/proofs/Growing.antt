@@ -99,7 +99,7 @@ one_more xs x = let e = length-append xs (x ∷ []) in omega (arith, e)
 -- sections
 
 pub program_kept : (bytes : List ℕ) (tokens : List Token) (f : Found) (p : ParsedProgram) (at : ℕ) → AreFound f
-    → named_at bytes (program_names f.programs) most_programs (behind_word tokens f) ≡ Ok tt → program_at bytes tokens f.next ≡ Ok p → IsTrue (is_name p.name) → IsRead p
+    → named_at bytes (program_names f.programs) most_programs (behind_word tokens f) ≡ Ok (tt {0}) → program_at bytes tokens f.next ≡ Ok p → IsTrue (is_name p.name) → IsRead p
     → AreFound (with_program f p at)
 program_kept bytes tokens f p at a new is called read =
     let name = named_new bytes (program_names f.programs) most_programs (behind_word tokens f) p.name new (program_named bytes tokens f.next p is) in
@@ -118,7 +118,7 @@ program_kept bytes tokens f p at a new is called read =
     }
 
 pub recipe_kept : (bytes : List ℕ) (tokens : List Token) (f : Found) (r : ParsedRecipe) → AreFound f
-    → named_at bytes (recipe_names f.recipes) most_recipes (behind_word tokens f) ≡ Ok tt → recipe_at bytes tokens f.next ≡ Ok r → IsTrue (is_name r.recipe.name)
+    → named_at bytes (recipe_names f.recipes) most_recipes (behind_word tokens f) ≡ Ok (tt {0}) → recipe_at bytes tokens f.next ≡ Ok r → IsTrue (is_name r.recipe.name)
     → AreFound (with_recipe f r.recipe r.next)
 recipe_kept bytes tokens f r a new is called =
     let name = named_new bytes (recipe_names f.recipes) most_recipes (behind_word tokens f) r.recipe.name new (recipe_named bytes tokens f.next r is) in
@@ -134,7 +134,7 @@ recipe_kept bytes tokens f r a new is called =
     }
 
 pub session_kept : (bytes : List ℕ) (tokens : List Token) (f : Found) (s : ParsedSession) → AreFound f
-    → named_at bytes (session_names f.sessions) most_sessions (behind_word tokens f) ≡ Ok tt → sessions.section_at bytes f.programs f.recipes tokens f.next ≡ Ok s → IsTrue (is_name s.session.name)
+    → named_at bytes (session_names f.sessions) most_sessions (behind_word tokens f) ≡ Ok (tt {0}) → sessions.section_at bytes f.programs f.recipes tokens f.next ≡ Ok s → IsTrue (is_name s.session.name)
     → IsTrue (session_fits (length f.programs) f.recipes s.session) → AreFound (with_session f s.session s.next)
 session_kept bytes tokens f s a new is called fits =
     let name = named_new bytes (session_names f.sessions) most_sessions (behind_word tokens f) s.session.name new (session_named bytes f.programs f.recipes tokens f.next s is) in
@@ -154,7 +154,7 @@ session_kept bytes tokens f s a new is called fits =
     }
 
 pub client_kept : (bytes : List ℕ) (tokens : List Token) (f : Found) (c : ParsedClient) → AreFound f
-    → named_at bytes (client_names f.clients) most_clients (behind_word tokens f) ≡ Ok tt → clients.section_at bytes f.programs f.sessions tokens f.next ≡ Ok c → IsTrue (is_name c.client.name)
+    → named_at bytes (client_names f.clients) most_clients (behind_word tokens f) ≡ Ok (tt {0}) → clients.section_at bytes f.programs f.sessions tokens f.next ≡ Ok c → IsTrue (is_name c.client.name)
     → IsTrue (client_fits (array_counts f.programs) (length f.sessions) c.client) → AreFound (with_client f c.client c.next)
 client_kept bytes tokens f c a new is called fits =
     let name = named_new bytes (client_names f.clients) most_clients (behind_word tokens f) c.client.name new (client_named bytes f.programs f.sessions tokens f.next c is) in

@@ -163,17 +163,17 @@ session_named bytes programs rs tokens from =
 
 -- what was judged of a name
 
-new_by : (has few : Bool) (at : ℕ) → (admitted (not has) (Plain D3) at tt >>= λ _. admitted few (Plain D6) at tt) ≡ Ok tt → (has ≡ false) × (few ≡ true)
+new_by : (has few : Bool) (at : ℕ) → (admitted (not has) (Plain D3) at (tt {0}) >>= λ _. admitted few (Plain D6) at (tt {0})) ≡ Ok (tt {0}) → (has ≡ false) × (few ≡ true)
 new_by true few at h = absurd cc
 new_by false true at h = (refl, refl)
 new_by false false at h = absurd cc
 
 new_if : (look : Bool) (has few : Bool) (at : ℕ) → look ≡ true
-    → choose look (λ _. (admitted (not has) (Plain D3) at tt >>= λ _. admitted few (Plain D6) at tt)) (λ _. Ok tt) ≡ Ok tt → (has ≡ false) × (few ≡ true)
+    → choose look (λ _. (admitted (not has) (Plain D3) at (tt {0}) >>= λ _. admitted few (Plain D6) at (tt {0}))) (λ _. Ok (tt {0})) ≡ Ok (tt {0}) → (has ≡ false) × (few ≡ true)
 new_if true has few at e h = new_by has few at h
 new_if false has few at e h = absurd cc
 
-pub named_new : (bytes : List ℕ) (names : List (List ℕ)) (most : ℕ) (ts : List Token) (name : List ℕ) → named_at bytes names most ts ≡ Ok tt → Named bytes ts name → IsNew most names name
+pub named_new : (bytes : List ℕ) (names : List (List ℕ)) (most : ℕ) (ts : List Token) (name : List ℕ) → named_at bytes names most ts ≡ Ok (tt {0}) → Named bytes ts name → IsNew most names name
 unfolding named_at
 named_new bytes names most ts name h n =
     let p = new_if (looks_named (seen bytes ts)) (has_name (text_at bytes ts) names) (nat_lt (length names) most) (place bytes ts) n.0 h in

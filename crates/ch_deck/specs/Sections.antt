@@ -43,11 +43,11 @@ looks_named other = false
 
 -- A name that one of its sort before has is refused, and then the name of one more than there may be. What is no name is left to
 -- the reader of the section.
-unfoldable pub named_at : List ℕ → List (List ℕ) → ℕ → List Token → Result Unit SectionError
+unfoldable pub named_at : List ℕ → List (List ℕ) → ℕ → List Token → Result (Unit {0}) SectionError
 named_at bytes names most ts = choose (looks_named (seen bytes ts))
-    (λ _. admitted (not (has_name (text_at bytes ts) names)) (Plain D3) (place bytes ts) tt
-    >>= λ _. admitted (nat_lt (length names) most) (Plain D6) (place bytes ts) tt)
-    (λ _. Ok tt)
+    (λ _. admitted (not (has_name (text_at bytes ts) names)) (Plain D3) (place bytes ts) (tt {0})
+    >>= λ _. admitted (nat_lt (length names) most) (Plain D6) (place bytes ts) (tt {0}))
+    (λ _. Ok (tt {0}))
 
 -- the names of each sort
 

@@ -22,7 +22,6 @@ pub(crate) struct Source<'t> {
     pub tokens: &'t [Token],
     ghost short: { length bytes.now ≤ 2 ^ 20 },
     ghost few: { length tokens.now ≤ 2 ^ 20 },
-    ghost cut: { IsCut bytes.now 0 tokens.now },
 }
 
 /// Which section begins at a place.
@@ -83,6 +82,7 @@ fn known(found: &Found) -> Declared<'_>
 #[tactic(auto, unfolding(crate::specs::Sections::program_from))]
 fn program(source: &Source<'_>, found: &mut Found) -> Result<(), SectionError>
     requires from { found.old.next < length source.now.tokens.now }
+    requires cut { IsCut source.now.bytes.now 0 source.now.tokens.now }
     requires fine { AreFound found.old }
     ensures exact { Gives (λ _. found.new) result (program_from source.now.bytes.now source.now.tokens.now found.old) }
     ensures fine { OnOk result (AreFound found.new) }
@@ -107,6 +107,7 @@ fn program(source: &Source<'_>, found: &mut Found) -> Result<(), SectionError>
 #[tactic(auto, unfolding(crate::specs::Sections::recipe_from))]
 fn recipe(source: &Source<'_>, found: &mut Found) -> Result<(), SectionError>
     requires from { found.old.next < length source.now.tokens.now }
+    requires cut { IsCut source.now.bytes.now 0 source.now.tokens.now }
     requires fine { AreFound found.old }
     ensures exact { Gives (λ _. found.new) result (recipe_from source.now.bytes.now source.now.tokens.now found.old) }
     ensures fine { OnOk result (AreFound found.new) }
@@ -125,6 +126,7 @@ fn recipe(source: &Source<'_>, found: &mut Found) -> Result<(), SectionError>
 #[tactic(auto, unfolding(crate::specs::Sections::session_from))]
 fn session(source: &Source<'_>, found: &mut Found) -> Result<(), SectionError>
     requires from { found.old.next < length source.now.tokens.now }
+    requires cut { IsCut source.now.bytes.now 0 source.now.tokens.now }
     requires fine { AreFound found.old }
     ensures exact { Gives (λ _. found.new) result (session_from source.now.bytes.now source.now.tokens.now found.old) }
     ensures fine { OnOk result (AreFound found.new) }
@@ -155,6 +157,7 @@ fn session(source: &Source<'_>, found: &mut Found) -> Result<(), SectionError>
 #[tactic(auto, unfolding(crate::specs::Sections::client_from))]
 fn client(source: &Source<'_>, found: &mut Found) -> Result<(), SectionError>
     requires from { found.old.next < length source.now.tokens.now }
+    requires cut { IsCut source.now.bytes.now 0 source.now.tokens.now }
     requires fine { AreFound found.old }
     ensures exact { Gives (λ _. found.new) result (client_from source.now.bytes.now source.now.tokens.now found.old) }
     ensures fine { OnOk result (AreFound found.new) }
@@ -180,6 +183,7 @@ fn client(source: &Source<'_>, found: &mut Found) -> Result<(), SectionError>
 #[tactic(auto, unfolding(crate::specs::Sections::section_from))]
 fn section(source: &Source<'_>, found: &mut Found) -> Result<(), SectionError>
     requires from { found.old.next < length source.now.tokens.now }
+    requires cut { IsCut source.now.bytes.now 0 source.now.tokens.now }
     requires fine { AreFound found.old }
     ensures exact { Gives (λ _. found.new) result (section_from source.now.bytes.now source.now.tokens.now found.old) }
     ensures fine { OnOk result (AreFound found.new) }
@@ -200,8 +204,9 @@ fn section(source: &Source<'_>, found: &mut Found) -> Result<(), SectionError>
 }
 
 /// All sections of a text.
-#[tactic(auto, using(crate::proofs::Series::sections_more, crate::proofs::Series::sections_fail, crate::proofs::Series::sections_stop, crate::proofs::Series::sections_end, crate::proofs::Series::nothing_kept))]
+#[tactic(auto, using(crate::proofs::Series::sections_more, crate::proofs::Series::sections_fail, crate::proofs::Series::sections_stop, crate::proofs::Series::nothing_kept))]
 pub(crate) fn sections(source: &Source<'_>) -> Result<Found, SectionError>
+    requires { IsCut source.now.bytes.now 0 source.now.tokens.now }
     ensures exact { Gives (λ f. f) result (sections_of source.now.bytes.now source.now.tokens.now) }
     ensures fine { IfOk result AreFound }
     ensures whole { IfOk result (λ f. f.next ≡ length source.now.tokens.now) }
