@@ -1,7 +1,6 @@
 -- A grid has an admissible point where one of its points meets all conditions.
-use Rattle.std.proofs.Common.{◌≡◌, refl, sym, ap₂, ◌∙◌, ℕ, ◌+◌, ◌<◌, Bool, true, false, nat_lt, Option, Some, None, MatchOption, List, [], ◌∷◌, ◌++◌, length, drop, get_or, map, append_assoc, add-one, drop-cons, lt-ltb, arith}
+use Rattle.std.proofs.Common.{◌≡◌, refl, sym, ap₂, ◌∙◌, ℕ, ◌+◌, ◌<◌, true, false, nat_lt, Option, Some, None, MatchOption, List, [], ◌∷◌, ◌++◌, length, drop, get_or, append_assoc, add-one, drop-cons, lt-ltb, arith}
 use Rattle.std.specs.Bool.{IsTrue}
-use Rattle.std.specs.List.{range_with_len}
 use Rattle.std.specs.Option.{is_some}
 use Rattle.std.proofs.lemmas.Bool.{and_from, both_ways}
 use Rattle.std.proofs.lemmas.List.FromFn.{length-map-range_with_len}
@@ -12,7 +11,7 @@ use Rattle.ch_grid.specs.declared.param.Param.{Param}
 use Rattle.ch_grid.specs.Grid.{size, sizes}
 use Rattle.ch_grid.specs.Points.{is_point}
 use Rattle.ch_grid.proofs.Sizes.{size_some}
-use Rattle.ch_script.specs.Requirements.{excess, required, requirement, weight_between}
+use Rattle.ch_script.specs.Requirements.{required, requirement, weight_between}
 use Rattle.ch_script.specs.declared.recipe.Cond.{Cond}
 use Rattle.ch_script.specs.declared.recipe.Relation.{Relation}
 use Rattle.ch_script.specs.declared.recipe.Relation.TheVariants.{Less, AtMost, More, AtLeast}

@@ -17,7 +17,6 @@ use Rattle.ch_lex.specs.declared.token.Token.{Token}
 use Rattle.ch_nest.specs.CostModel.{CostModel, cost_model}
 use Rattle.ch_nest.specs.Limits.{most_cache, most_charge, most_number}
 use Rattle.ch_nest.specs.Shape.{is_at_most}
-use Rattle.ch_nest.specs.declared.nest.Fill.{Fill}
 use Rattle.ch_nestparse.specs.declared.ahead.Look.{Look}
 use Rattle.ch_nestparse.specs.declared.ahead.Look.TheVariants as looks
 use Rattle.ch_nestparse.specs.declared.program.ParsedProgram.{ParsedProgram}
@@ -26,8 +25,8 @@ use Rattle.ch_nestparse.specs.Inside.{IsWithin}
 use Rattle.ch_nestparse.specs.Read.{begins, place, seen}
 use Rattle.ch_nestparse.specs.Spelling.{is_fill, is_name}
 use Rattle.ch_nestparse.proofs.Placed.{Placed, placed_bind, placed_choose, placed_err, placed_guarded, placed_ok}
-use Rattle.ch_nestparse.proofs.Posts.{Post, integer_post}
-use Rattle.ch_script.proofs.Left.{Leaves, Left, integer_left, keyword_left, left_drop, left_place, left_within, name_left, placed_if, placed_map, repeated_left, sign_left}
+use Rattle.ch_nestparse.proofs.Posts.{integer_post}
+use Rattle.ch_script.proofs.Left.{Leaves, Left, integer_left, keyword_left, left_drop, left_place, name_left, placed_if, repeated_left, sign_left}
 use Rattle.ch_workload.specs.declared.calls.CallDecl.{CallDecl}
 use Rattle.ch_workload.specs.declared.calls.Called.{Called}
 use Rattle.ch_workload.specs.declared.client.Script.{Script}

@@ -9,7 +9,7 @@ use Rattle.std.proofs.lemmas.List.Quantifiers.{position-Some}
 use Rattle.ch_grid.specs.declared.grid.GridError.{GridError}
 use Rattle.ch_grid.specs.declared.grid.GridError.TheVariants.{BadParam, TooManyPoints}
 use Rattle.ch_grid.specs.declared.param.Param.{Param}
-use Rattle.ch_grid.specs.Grid.{fault_of, fault_with, is_good, sizes}
+use Rattle.ch_grid.specs.Grid.{fault_of, fault_with, is_good}
 use Rattle.ch_grid.specs.Points.{count}
 use Rattle.ch_nest.specs.Arrays.{extents_of, total}
 use Rattle.ch_nest.specs.declared.nest.ArrayDecl.{ArrayDecl}

@@ -1,5 +1,5 @@
 -- Readings of sections: what they give, and that each refusal names a place of the text, or its end.
-use Rattle.std.proofs.Common.{◌≡◌, ℕ, zero, suc, ◌-◌, ◌≤◌, pos, Bool, true, false, List, [], ◌∷◌, length, drop, length-drop, Result, Ok, Err, refl, ap, subst, arith}
+use Rattle.std.proofs.Common.{◌≡◌, ℕ, ◌-◌, ◌≤◌, pos, Bool, true, false, List, length, drop, length-drop, Result, Ok, Err, refl, ap, subst, arith}
 use Rattle.ch_lex.specs.Cut.{IsCut}
 use Rattle.ch_lex.specs.declared.error.Code2.{Code2}
 use Rattle.ch_lex.specs.declared.error.ParseError.{ParseError}
@@ -13,7 +13,7 @@ use Rattle.ch_nestparse.proofs.Posts.{Post}
 use Rattle.ch_script.proofs.Left.{Leaves, Left, left_after, left_drop, left_place}
 use Rattle.ch_workload.specs.declared.error.DeckCode.{DeckCode}
 use Rattle.ch_workload.specs.declared.error.SectionError.{SectionError}
-use Rattle.ch_workload.specs.declared.error.SectionError.TheVariants.{Memory, Refused}
+use Rattle.ch_workload.specs.declared.error.SectionError.TheVariants.{Refused}
 use Rattle.ch_nestparse.specs.Inside as parsed
 use Rattle.ch_workload.specs.Inside.{IsWithin}
 use Rattle.ch_workload.specs.Refusals.{◌>>=◌, admitted, lifted, raised}

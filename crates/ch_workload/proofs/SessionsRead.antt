@@ -1,5 +1,5 @@
 -- A session section that was read: its name is a name, and a token was taken; each refusal names a place of the text.
-use Rattle.std.proofs.Common.{◌≡◌, ℕ, ◌+◌, ◌-◌, ◌≤◌, Bool, true, false, List, [], ◌∷◌, ◌++◌, length, drop, nat_eq, Ok, Err, Result, refl, arith}
+use Rattle.std.proofs.Common.{◌≡◌, ℕ, ◌+◌, ◌-◌, ◌≤◌, Bool, true, false, List, [], ◌∷◌, ◌++◌, length, drop, nat_eq, Ok, arith}
 use Rattle.std.specs.Bool.{IsTrue}
 use Rattle.ch_grid.specs.declared.param.Param.{Param}
 use Rattle.ch_grid.specs.Grid.{is_good}
@@ -22,7 +22,7 @@ use Rattle.ch_workload.specs.declared.headings.Heading.{Heading}
 use Rattle.ch_workload.specs.Headings.{heading_at, program_line_at, recipe_line_at}
 use Rattle.ch_workload.specs.Inside.{IsWithin}
 use Rattle.ch_workload.specs.Params.{begins_param, is_named, param_at, params_at, range_at}
-use Rattle.ch_workload.specs.Refusals.{Fails, lifted}
+use Rattle.ch_workload.specs.Refusals.{Fails}
 use Rattle.ch_workload.specs.Admissible.{has_admissible}
 use Rattle.ch_workload.specs.Sessions.{begins_repeat, closed_at, has_few_points, numbered, repeats_at, session_at, times_at}
 use Rattle.ch_workload.specs.Tuned.{Tuned, are_repeats, tuned}

@@ -1,6 +1,5 @@
 -- The fills of a client: how arrays start for it, in place of the fills of their programs.
 use Rattle.std.specs.Prelude.{ℕ, Bool, true, false, not, ◌&&◌, ◌||◌, nat_eq, nat_lt, List, [], ◌∷◌, ◌++◌, length, slice_get, slice_index_or, Ok}
-use Rattle.std.specs.List.{list_all}
 use Rattle.std.specs.Option.{option_map_or}
 use Rattle.ch_lex.specs.declared.error.Code2.TheVariants.{D2, D3}
 use Rattle.ch_lex.specs.declared.keyword.Keyword.TheVariants as words

@@ -13,12 +13,12 @@ ghost use Rattle.ch_workload.specs.Inside.{IsWithin};
 ghost use Rattle.ch_workload.specs.declared.error.DeckCode.TheVariants.{Plain};
 ghost use Rattle.ch_workload.specs.declared.error.SectionError.TheVariants.{Refused};
 
+use crate::admissible::has_admissible;
 use crate::error::{DeckCode, SectionError};
 use crate::headings::begun;
 use crate::limits::MOST_REPEATS;
 use crate::names::{Declared, Scope};
 use crate::params::params;
-use crate::admissible::has_admissible;
 use ch_affine::{List, Text};
 use ch_grid::{Grid, Param};
 use ch_lex::{Code2, Sign, Token};
