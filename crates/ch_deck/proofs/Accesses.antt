@@ -1,5 +1,5 @@
 -- An access that leaves its array has a number below that of all accesses of the text: so it has a place there.
-use Rattle.std.proofs.Common.{◌≡◌, refl, sym, ap, ap₂, ◌∙◌, subst, ℕ, zero, suc, ◌+◌, ◌<◌, ◌≤◌, ℤ, pos, Bool, true, false, ◌&&◌, if◌then◌else◌, nat_eq, nat_lt, Option, Some, None, List, [], ◌∷◌, ◌++◌, length, length-append, map, take, append-nil, arith}
+use Rattle.std.proofs.Common.{◌≡◌, refl, sym, ap, ◌∙◌, subst, ℕ, zero, suc, ◌+◌, ◌<◌, ◌≤◌, ℤ, pos, Bool, true, false, ◌&&◌, if◌then◌else◌, nat_eq, nat_lt, Option, Some, None, List, [], ◌∷◌, ◌++◌, length, length-append, map, take, append-nil, arith}
 use Rattle.std.specs.Bool.{IsTrue}
 use Rattle.std.specs.List.{flat_map, slice_get, sum}
 use Rattle.std.specs.Option.{is_some}
@@ -10,12 +10,11 @@ use Rattle.ch_nest.specs.Arrays.{extents_of}
 use Rattle.ch_nest.specs.Limits.{most_statements, most_work}
 use Rattle.ch_nest.specs.LoopNest.{LoopNest}
 use Rattle.ch_nest.specs.Run.{is_met, values_at}
-use Rattle.ch_nest.specs.Shape.{Numbering, after, all_numbered, each_numbered, is_nest, numbered, numbered_step}
+use Rattle.ch_nest.specs.Shape.{Numbering, after, all_numbered, each_numbered, is_nest, numbered}
 use Rattle.ch_nest.specs.Sound.{access_inside, items_work}
 use Rattle.ch_nest.specs.declared.nest.Access.{Access}
 use Rattle.ch_nest.specs.declared.nest.Body.{Body}
 use Rattle.ch_nest.specs.declared.nest.Item.{Item}
-use Rattle.ch_nest.specs.declared.nest.Item.TheOpen.{Item-F}
 use Rattle.ch_nest.specs.declared.nest.Item.TheVariants.{Loop, If, Assign}
 use Rattle.ch_nestparse.specs.TextOrder as text
 use Rattle.ch_nestparse.specs.declared.program.ParsedProgram.{ParsedProgram}
@@ -27,7 +26,7 @@ use Rattle.ch_space.specs.declared.error.SpaceError.{SpaceError}
 use Rattle.ch_space.specs.declared.error.SpaceError.TheVariants.{TooMany, OutOfRange}
 use Rattle.ch_timed.specs.Conflict.{cell_of}
 use Rattle.ch_timed.specs.Members.{Each}
-use Rattle.ch_timed.specs.Start.{Listing, at_places, start, start_item, start_items, where_met}
+use Rattle.ch_timed.specs.Start.{Listing, at_places, start, start_item, start_items}
 use Rattle.ch_timed.specs.declared.element.Cell.{Cell}
 use Rattle.ch_timed.specs.declared.element.Element.{Element}
 use Rattle.ch_timed.specs.declared.element.Identity.{Identity}

@@ -1,7 +1,7 @@
 -- One section more: what is known of those that were found.
-use Rattle.std.proofs.Common.{◌≡◌, ℕ, zero, suc, ◌+◌, ◌<◌, ◌≤◌, Bool, true, false, ◌&&◌, nat_lt, nat_le, List, [], ◌∷◌, ◌++◌, length, length-append, drop, map, slice_get, Ok, refl, sym, ap, ◌∙◌, subst, lt-ltb, arith}
+use Rattle.std.proofs.Common.{◌≡◌, ℕ, zero, suc, ◌+◌, ◌<◌, ◌≤◌, Bool, true, false, ◌&&◌, nat_lt, nat_le, List, [], ◌∷◌, ◌++◌, length, length-append, slice_get, Ok, refl, sym, subst, lt-ltb, arith}
 use Rattle.std.specs.Bool.{IsTrue}
-use Rattle.std.specs.List.{All, list_all}
+use Rattle.std.specs.List.{list_all}
 use Rattle.std.specs.Option.{option_map_or}
 use Rattle.std.specs.Prelude.{slice_index_or}
 use Rattle.std.proofs.lemmas.Bool.{and_from, and_parts, ltb-true}

@@ -1,5 +1,5 @@
 -- The deck of programs that can be run.
-use Rattle.std.proofs.Common.{◌≡◌, ℕ, suc, ◌+◌, ◌-◌, ◌≤◌, List, [], ◌∷◌, length, map, take, drop, get_or, subst, Option, None, Result, Ok, Err, true, ◌∙◌, refl, sym, ap, arith}
+use Rattle.std.proofs.Common.{◌≡◌, suc, ◌-◌, ◌≤◌, List, [], ◌∷◌, length, map, take, drop, get_or, subst, Option, None, Result, Ok, Err, true, ◌∙◌, refl, sym, ap, arith}
 use Rattle.std.specs.Bool.{IsTrue}
 use Rattle.std.specs.List.{All, list_all}
 use Rattle.std.specs.Prelude.{IfOk}
@@ -13,7 +13,7 @@ use Rattle.ch_workload.specs.Sessions.{session_fits}
 use Rattle.ch_deck.specs.declared.found.Found.{Found}
 use Rattle.ch_deck.specs.declared.program.Program.{Program}
 use Rattle.ch_deck.specs.declared.refusal.Refused.{Refused}
-use Rattle.ch_deck.specs.Judged.{IsSound, deck_found, program_of}
+use Rattle.ch_deck.specs.Judged.{IsSound, program_of}
 use Rattle.ch_deck.specs.Kept.{AreFound, IsRead}
 use Rattle.ch_deck.specs.Limits.{most_programs}
 use Rattle.ch_deck.specs.Parts.{AreNames, IsDeck, arrays_in}

@@ -1,6 +1,5 @@
 -- The sections of a deck, one more.
-use Rattle.std.proofs.Common.{◌≡◌, ℕ, zero, suc, ◌+◌, ◌-◌, ◌<◌, ◌≤◌, pos, Bool, true, false, nat_lt, List, [], length, Result, Ok, Err, refl, sym, ◌∙◌, lt-ltb, arith}
-use Rattle.std.specs.Bool.{IsTrue}
+use Rattle.std.proofs.Common.{◌≡◌, ℕ, zero, suc, ◌+◌, ◌-◌, ◌<◌, ◌≤◌, false, nat_lt, List, [], length, Result, Ok, Err, refl, sym, ◌∙◌, lt-ltb, arith}
 use Rattle.std.proofs.lemmas.Bool.Decides.{nat_tests}
 use Rattle.std.proofs.lemmas.List.Elements.{All-nil}
 use Rattle.ch_lex.specs.declared.token.Token.{Token}

@@ -1,5 +1,5 @@
 -- What is known of the sections that were found.
-use Rattle.std.specs.Prelude.{◌≡◌, ℕ, IsTrue, List, length}
+use Rattle.std.specs.Prelude.{◌≡◌, IsTrue, length}
 use Rattle.std.specs.List.{All, list_all}
 use Rattle.ch_deck.specs.declared.found.Found.{Found}
 use Rattle.ch_deck.specs.Limits.{most_clients, most_programs, most_recipes, most_sessions}
