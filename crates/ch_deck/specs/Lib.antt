@@ -1,6 +1,9 @@
+pub mod Limits
 pub mod Programs
+pub mod Parts
 pub mod Refusals
 pub mod Sections
+pub mod Kept
 pub mod Judged
 pub mod Decks
 pub mod Gives

@@ -1,15 +1,11 @@
--- What the type of a deck keeps of its programs.
-use Rattle.std.specs.Prelude.{◌≡◌, ℕ, ◌≤◌, Bool, true, false, not, ◌&&◌, ◌||◌, IsTrue, List, [], ◌∷◌, length, map}
-use Rattle.std.specs.List.{All, list_all}
+-- What the type of a deck keeps of its programs, and names of one sort.
+use Rattle.std.specs.Prelude.{◌≡◌, ℕ, Bool, true, false, not, ◌&&◌, ◌||◌, IsTrue, List, [], ◌∷◌, length}
+use Rattle.std.specs.List.{list_all}
 use Rattle.std.specs.Str.{bytes_eq}
 use Rattle.ch_deck.specs.declared.program.Program.{Program}
 use Rattle.ch_nest.specs.Sound.{is_sound}
 use Rattle.ch_nestparse.specs.Distinct.{are_distinct}
 use Rattle.ch_nestparse.specs.Spelling.{is_fill, is_name, is_named}
-
--- the most programs of a deck
-abbrev pub most_programs : ℕ
-most_programs = 16
 
 -- the name stands among these
 abbrev pub has_name : List ℕ → List (List ℕ) → Bool
@@ -30,8 +26,3 @@ pub record IsProgram (p : Program) : Type 0 where
   pub apart : IsTrue (are_distinct p.nest.arrays)
   pub filled : length p.fills ≡ length p.nest.arrays
   pub numbers : IsTrue (list_all is_fill p.fills)
-
-pub record IsDeck (programs : List Program) : Type 0 where
-  pub few : length programs ≤ most_programs
-  pub differ : IsTrue (names_differ (map (λ p. p.name) programs))
-  pub each : All IsProgram programs

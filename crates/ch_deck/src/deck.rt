@@ -1,19 +1,23 @@
-ghost use Rattle.std.specs.Prelude.{◌≡◌, ◌<◌, ◌^◌, Some, None, length, map, slice_index_or, IfOk};
+ghost use Rattle.std.specs.Prelude.{◌≡◌, ◌<◌, ◌^◌, ℕ, [], Some, None, length, map, IfOk};
 ghost use Rattle.std.specs.List.{All};
 ghost use Rattle.ch_deck.specs.Judged.{IsSound, first_unfit, instance_text, program_of, told, unfit};
 ghost use Rattle.ch_deck.specs.Refusals.{refused_at, value_text};
+ghost use Rattle.ch_deck.specs.Kept.{IsRead};
 ghost use Rattle.ch_lex.specs.Spots.{spot_of};
-ghost use Rattle.ch_space.specs.declared.error.SpaceError.TheVariants.{OutOfRange, TooMany};
+ghost use Rattle.ch_lex.specs.declared.error.Code2.TheVariants.{S1};
+ghost use Rattle.ch_space.specs.declared.error.SpaceError.TheVariants.{OutOfRange};
+ghost use Rattle.ch_workload.specs.declared.error.DeckCode.TheVariants.{Plain};
 
 use crate::program::Program;
 use crate::refusal::Refused;
-use crate::sections::Found;
 use ch_affine::{List, Text};
 use ch_lex::{Code2, Spot, spot};
 use ch_nest::ArrayDecl;
+use ch_nestparse::ParsedProgram;
 use ch_print::{put_cell, put_identity, put_wide};
 use ch_space::{SpaceError, judged};
 use ch_timed::{Cell, Identity};
+use ch_workload::DeckCode;
 use std::alloc::{AllocError, Global};
 
 /// The line and the column of a byte, the end of the text for a byte behind it.
@@ -26,7 +30,7 @@ fn spot_of(bytes: &[u8], at: u32) -> Spot
 }
 
 /// A refusal at a byte of the text.
-fn refused_at(bytes: &[u8], code: Code2, at: u32, detail: Text) -> Refused
+fn refused_at(bytes: &[u8], code: DeckCode, at: u32, detail: Text) -> Refused
     requires { length bytes.now < 2 ^ 31 }
     ensures { result ≡ refused_at bytes.now code at detail }
 {
@@ -37,11 +41,11 @@ fn refused_at(bytes: &[u8], code: Code2, at: u32, detail: Text) -> Refused
     }
 }
 
-fn value_text(alloc: Global, code: Code2, value: i128) -> Result<Text, AllocError>
+fn value_text(alloc: Global, code: DeckCode, value: i128) -> Result<Text, AllocError>
     ensures { IfOk result (λ text. text ≡ value_text code value) }
 {
     let mut text = Text::new(alloc);
-    if let Code2::A1 = code {
+    if let DeckCode::Plain(Code2::A1) = code {
         put_wide(&mut text, value)?;
     }
     Ok(text)
@@ -51,7 +55,7 @@ fn value_text(alloc: Global, code: Code2, value: i128) -> Result<Text, AllocErro
 pub(crate) fn placed(
     alloc: Global,
     bytes: &[u8],
-    code: Code2,
+    code: DeckCode,
     at: u32,
     value: i128,
 ) -> Result<Refused, AllocError>
@@ -81,51 +85,50 @@ fn instance_text(
     Ok(text)
 }
 
-fn access_at(accesses: &[u32], access: u32) -> u32
-    ensures { result ≡ slice_index_or accesses.now access 0 }
-{
-    match accesses.get(access as usize) {
-        Some(at) => *at,
-        None => 0,
-    }
-}
-
-/// The refusal of a program that takes too many turns, at its name.
-fn too_many(alloc: Global, bytes: &[u8], found: &Found) -> Refused
+/// The refusal of a program that takes too many turns, whose name stands at byte `name_at`.
+fn too_many(alloc: Global, bytes: &[u8], name_at: u32) -> Refused
     requires { length bytes.now < 2 ^ 31 }
-    ensures { Some result ≡ told bytes.now found.now TooMany }
+    ensures { result ≡ refused_at bytes.now (Plain S1) name_at [] }
 {
-    refused_at(bytes, Code2::S1, found.name_at, Text::new(alloc))
+    refused_at(bytes, DeckCode::Plain(Code2::S1), name_at, Text::new(alloc))
 }
 
-/// The refusal of a program whose subscript leaves its array, at that access.
+/// The refusal of a program whose access of this number leaves its array.
 fn out_of_range(
     alloc: Global,
     bytes: &[u8],
-    found: &Found,
+    program: &ParsedProgram,
     first: &Identity,
     access: u32,
     cell: &Cell,
 ) -> Result<Refused, AllocError>
-    requires { length bytes.now < 2 ^ 31 }
-    ensures { IfOk result (λ r. Some r ≡ told bytes.now found.now (OutOfRange first.now access cell.now)) }
+    requires short { length bytes.now < 2 ^ 31 }
+    requires there { access < length program.now.accesses }
+    ensures { IfOk result (λ r. (name_at : ℕ) → Some r ≡ told bytes.now program.now name_at (OutOfRange first.now access cell.now)) }
 {
-    let text = instance_text(alloc, found.program.nest.arrays.as_slice(), first, cell)?;
-    let at = access_at(found.program.accesses.as_slice(), access);
-    Ok(refused_at(bytes, Code2::S2, at, text))
+    let text = instance_text(alloc, program.nest.arrays.as_slice(), first, cell)?;
+    let accesses = program.accesses.as_slice();
+    let at = accesses[access as usize];
+    Ok(refused_at(bytes, DeckCode::Plain(Code2::S2), at, text))
 }
 
-/// Why a program can't be run, if it can't.
-#[tactic(auto, unfolding(crate::specs::Judged::unfit))]
-fn unfit(alloc: Global, bytes: &[u8], found: &Found) -> Result<Option<Refused>, AllocError>
-    requires { length bytes.now < 2 ^ 31 }
-    ensures exact { IfOk result (λ r. r ≡ unfit bytes.now found.now) }
-    ensures sound { IfOk result (λ r. r ≡ None → IsSound found.now) }
+/// Why a program, whose name stands at byte `name_at`, can't be run, if it can't.
+#[tactic(auto, unfolding(crate::specs::Judged::unfit), using(crate::proofs::Accesses::access_there))]
+fn unfit(
+    alloc: Global,
+    bytes: &[u8],
+    program: &ParsedProgram,
+    name_at: u32,
+) -> Result<Option<Refused>, AllocError>
+    requires short { length bytes.now < 2 ^ 31 }
+    requires read { IsRead program.now }
+    ensures exact { IfOk result (λ r. r ≡ unfit bytes.now program.now name_at) }
+    ensures sound { IfOk result (λ r. r ≡ None → IsSound program.now) }
 {
-    match judged(alloc, &found.program.nest) {
+    match judged(alloc, &program.nest) {
         Ok(()) => Ok(None),
         Err(SpaceError::Memory) => Err(AllocError),
-        Err(SpaceError::TooMany) => Ok(Some(too_many(alloc, bytes, found))),
+        Err(SpaceError::TooMany) => Ok(Some(too_many(alloc, bytes, name_at))),
         Err(
             SpaceError::OutOfRange {
                 first,
@@ -133,43 +136,54 @@ fn unfit(alloc: Global, bytes: &[u8], found: &Found) -> Result<Option<Refused>, 
                 cell,
             },
         ) => {
-            let refusal = out_of_range(alloc, bytes, found, &first, access, &cell)?;
+            program.nest.known();
+            let refusal = out_of_range(alloc, bytes, program, &first, access, &cell)?;
             Ok(Some(refusal))
         }
     }
 }
 
-/// The refusal of the first program that can't be run, if there is one.
+/// The refusal of the first program that can't be run, if there is one, where the programs' names stand at these bytes.
 pub(crate) fn first_unfit(
     alloc: Global,
     bytes: &[u8],
-    found: &[Found],
+    programs: &[ParsedProgram],
+    places: &[u32],
 ) -> Result<Option<Refused>, AllocError>
-    requires { length bytes.now < 2 ^ 31 }
-    ensures exact { IfOk result (λ r. r ≡ first_unfit bytes.now found.now) }
-    ensures sound { IfOk result (λ r. r ≡ None → All IsSound found.now) }
+    requires short { length bytes.now < 2 ^ 31 }
+    requires read { All IsRead programs.now }
+    requires placed { length places.now ≡ length programs.now }
+    ensures exact { IfOk result (λ r. r ≡ first_unfit bytes.now programs.now places.now) }
+    ensures sound { IfOk result (λ r. r ≡ None → All IsSound programs.now) }
 {
-    match found {
+    match programs {
         [] => Ok(None),
-        [first, others @ ..] => match unfit(alloc, bytes, first)? {
-            Some(refusal) => Ok(Some(refusal)),
-            None => first_unfit(alloc, bytes, others),
+        [first, others @ ..] => match places {
+            [] => Ok(None),
+            [at, more @ ..] => match unfit(alloc, bytes, first, *at)? {
+                Some(refusal) => Ok(Some(refusal)),
+                None => first_unfit(alloc, bytes, others, more),
+            },
         },
     }
 }
 
-/// The programs of the sections.
-pub(crate) fn programs_of(alloc: Global, found: List<Found>) -> Result<List<Program>, AllocError>
+/// The programs as a deck keeps them.
+pub(crate) fn programs_of(
+    alloc: Global,
+    found: List<ParsedProgram>,
+) -> Result<List<Program>, AllocError>
     ensures { IfOk result (λ programs. programs ≡ map program_of found) }
 {
     let mut programs = List::new(alloc);
-    for f in found.into_vec() {
-        let Found { program, .. } = f;
-        programs.push(Program {
-            name: program.name,
-            nest: program.nest,
-            fills: program.fills,
-        })?;
+    for parsed in found.into_vec() {
+        let ParsedProgram {
+            name,
+            nest,
+            fills,
+            ..
+        } = parsed;
+        programs.push(Program { name, nest, fills })?;
     }
     Ok(programs)
 }

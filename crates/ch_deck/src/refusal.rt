@@ -2,8 +2,9 @@ ghost use Rattle.std.specs.Prelude.{◌≡◌, ◌++◌, OnOk};
 ghost use Rattle.ch_deck.specs.Refusals.{detail_text, refusal_line, spot_text};
 
 use ch_affine::Text;
-use ch_lex::{Code2, Spot};
+use ch_lex::Spot;
 use ch_print::put_number;
+use ch_workload::DeckCode;
 use std::alloc::AllocError;
 use thiserror::Error;
 
@@ -11,7 +12,7 @@ use thiserror::Error;
 /// number, for S2 the instance and the cell), else nothing.
 #[derive(Debug, Drop)]
 pub struct Refused {
-    pub code: Code2,
+    pub code: DeckCode,
     pub spot: Option<Spot>,
     pub detail: Text,
 }

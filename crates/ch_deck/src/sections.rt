@@ -1,33 +1,37 @@
-ghost use Rattle.std.specs.Prelude.{◌≡◌, ◌<◌, ◌≤◌, ◌^◌, ◌+◌, ◌++◌, ◌∷◌, [], length, not, map, nat_lt, IfOk, IsTrue};
-ghost use Rattle.ch_deck.specs.Programs.{has_name, most_programs, names_differ};
-ghost use Rattle.ch_deck.specs.Sections.{AreFound, IsRead, end_of, found_at, looks_named, most_sections, named_at, names, section_from, sections_from, sections_of, sort_of, word_sort};
+//! The sections of a deck, one after another.
+ghost use Rattle.std.specs.Prelude.{◌≡◌, ◌<◌, ◌≤◌, ◌^◌, ◌+◌, drop, length, IfOk, IsTrue, OnOk};
+ghost use Rattle.ch_deck.specs.Kept.{AreFound};
+ghost use Rattle.ch_deck.specs.Sections.{behind_word, client_from, program_from, recipe_from, section_from, sections_of, session_from, sort_of, word_sort};
 ghost use Rattle.ch_lex.specs.Cut.{IsCut};
-ghost use Rattle.ch_nestparse.specs.Gives.{Gives};
+ghost use Rattle.ch_workload.specs.Refusals.{Gives};
 
-use ch_affine::List;
-use ch_lex::{Code2, Keyword, ParseError, Token};
-use ch_nestparse::{Look, ParsedProgram, parse_program, place, refused, seen, text_at};
+use crate::found::Found;
+use crate::limits::{MOST_CLIENTS, MOST_PROGRAMS, MOST_RECIPES, MOST_SESSIONS};
+use crate::titles::named;
+use ch_lex::{Code2, Keyword, Token};
+use ch_nestparse::{Look, parse_program, place, seen};
+use ch_script::parse_recipe;
+use ch_workload::{DeckCode, Declared, SectionError, parse_client, parse_session};
 use std::alloc::Global;
 
-const MOST_PROGRAMS: usize = 16;
-
-/// A 17th program is refused, so no more sections are begun.
-const MOST_SECTIONS: u32 = 17;
+/// The text of a deck, and its tokens.
+#[derive(Drop)]
+pub(crate) struct Source<'t> {
+    pub alloc: Global,
+    pub bytes: &'t [u8],
+    pub tokens: &'t [Token],
+    ghost short: { length bytes.now ≤ 2 ^ 20 },
+    ghost few: { length tokens.now ≤ 2 ^ 20 },
+}
 
 /// Which section begins at a place.
 #[derive(Clone, Copy, Debug)]
 pub(crate) enum Sort {
     Program,
-    /// A section of the language that isn't read yet.
-    Later,
+    Recipe,
+    Session,
+    Client,
     Other,
-}
-
-/// A program section, and the byte of the program's name.
-#[derive(Drop)]
-pub(crate) struct Found {
-    pub program: ParsedProgram,
-    pub name_at: u32,
 }
 
 fn word_sort(word: Keyword) -> Sort
@@ -35,7 +39,9 @@ fn word_sort(word: Keyword) -> Sort
 {
     match word {
         Keyword::Program => Sort::Program,
-        Keyword::Recipe | Keyword::Session | Keyword::Client => Sort::Later,
+        Keyword::Recipe => Sort::Recipe,
+        Keyword::Session => Sort::Session,
+        Keyword::Client => Sort::Client,
         _ => Sort::Other,
     }
 }
@@ -49,135 +55,168 @@ fn sort_of(look: Look) -> Sort
     }
 }
 
-fn looks_named(look: Look) -> bool
-    ensures { result ≡ looks_named look }
+/// The tokens from the name of the next section on.
+fn behind_word<'t>(source: &Source<'t>, found: &Found) -> &'t [Token]
+    requires { found.now.next < length source.now.tokens.now }
+    ensures { result.now ≡ behind_word source.now.tokens.now found.now }
 {
-    matches!(look, Look::Name)
+    source.tokens.split_at(found.next as usize + 1).1
 }
 
-/// Whether one of the programs has this name.
-fn has_name(name: &[u8], found: &[Found]) -> bool
-    ensures { result ≡ has_name name.now (names found.now) }
+/// What sessions and clients may name.
+#[tactic(auto, using(crate::proofs::Growing::few_programs, crate::proofs::Growing::few_recipes, crate::proofs::Growing::few_sessions))]
+fn known(found: &Found) -> Declared<'_>
+    requires { AreFound found.now }
+    ensures programs { result.programs.now ≡ found.now.programs }
+    ensures recipes { result.recipes.now ≡ found.now.recipes }
+    ensures sessions { result.sessions.now ≡ found.now.sessions }
 {
-    for f in found {
-        if name == f.program.name.as_bytes() {
-            return true;
-        }
+    Declared {
+        programs: found.programs.as_slice(),
+        recipes: found.recipes.as_slice(),
+        sessions: found.sessions.as_slice(),
     }
-    false
 }
 
-/// Judges the name of a program section, whose first token this is.
-#[tactic(auto, unfolding(crate::specs::Sections::named_at))]
-fn named(bytes: &[u8], found: &[Found], tokens: &[Token]) -> Result<(), ParseError>
-    requires { length bytes.now < 2 ^ 32 }
-    ensures { Gives (λ r. r) result (named_at bytes.now found.now tokens.now) }
+/// One program more.
+#[tactic(auto, unfolding(crate::specs::Sections::program_from))]
+fn program(source: &Source<'_>, found: &mut Found) -> Result<(), SectionError>
+    requires from { found.old.next < length source.now.tokens.now }
+    requires cut { IsCut source.now.bytes.now 0 source.now.tokens.now }
+    requires fine { AreFound found.old }
+    ensures exact { Gives (λ _. found.new) result (program_from source.now.bytes.now source.now.tokens.now found.old) }
+    ensures fine { OnOk result (AreFound found.new) }
+    ensures behind { OnOk result (found.old.next < found.new.next) }
+    ensures within { OnOk result (found.new.next ≤ length source.now.tokens.now) }
 {
-    if looks_named(seen(bytes, tokens)) {
-        if has_name(text_at(bytes, tokens), found) {
-            return Err(refused(Code2::D3, place(bytes, tokens)));
-        }
-        if found.len() >= MOST_PROGRAMS {
-            return Err(refused(Code2::D6, place(bytes, tokens)));
-        }
-    }
+    let behind = behind_word(source, found);
+    named(
+        source.bytes,
+        found.programs.as_slice(),
+        MOST_PROGRAMS,
+        behind,
+    )?;
+    let program = parse_program(source.alloc, source.tokens, source.bytes, found.next)?;
+    found.next = program.next;
+    found.programs.push(program)?;
+    found.places.push(place(source.bytes, behind))?;
     Ok(())
 }
 
-/// The program section that begins with token `from`.
-#[tactic(auto, unfolding(crate::specs::Sections::found_at))]
-fn found_at(
-    alloc: Global,
-    bytes: &[u8],
-    tokens: &[Token],
-    from: u32,
-    found: &[Found],
-) -> Result<Found, ParseError>
-    requires short { length bytes.now < 2 ^ 32 }
-    requires few { length tokens.now < 2 ^ 32 }
-    requires cut { IsCut bytes.now 0 tokens.now }
-    requires from { from < length tokens.now }
-    ensures exact { Gives (λ f. f) result (found_at bytes.now tokens.now from found.now) }
-    ensures read { IfOk result IsRead }
-    ensures within { IfOk result (λ f. f.program.next ≤ length tokens.now) }
+/// One recipe more.
+#[tactic(auto, unfolding(crate::specs::Sections::recipe_from))]
+fn recipe(source: &Source<'_>, found: &mut Found) -> Result<(), SectionError>
+    requires from { found.old.next < length source.now.tokens.now }
+    requires cut { IsCut source.now.bytes.now 0 source.now.tokens.now }
+    requires fine { AreFound found.old }
+    ensures exact { Gives (λ _. found.new) result (recipe_from source.now.bytes.now source.now.tokens.now found.old) }
+    ensures fine { OnOk result (AreFound found.new) }
+    ensures behind { OnOk result (found.old.next < found.new.next) }
+    ensures within { OnOk result (found.new.next ≤ length source.now.tokens.now) }
 {
-    let behind = tokens.split_at(from as usize + 1).1;
-    named(bytes, found, behind)?;
-    let program = parse_program(alloc, tokens, bytes, from)?;
-    Ok(Found {
-        program,
-        name_at: place(bytes, behind),
-    })
+    let behind = behind_word(source, found);
+    named(source.bytes, found.recipes.as_slice(), MOST_RECIPES, behind)?;
+    let parsed = parse_recipe(source.alloc, source.tokens, source.bytes, found.next)?;
+    found.next = parsed.next;
+    found.recipes.push(parsed.recipe)?;
+    Ok(())
 }
 
-/// The section that begins with token `from`, after those that were found.
+/// One session more.
+#[tactic(auto, unfolding(crate::specs::Sections::session_from))]
+fn session(source: &Source<'_>, found: &mut Found) -> Result<(), SectionError>
+    requires from { found.old.next < length source.now.tokens.now }
+    requires cut { IsCut source.now.bytes.now 0 source.now.tokens.now }
+    requires fine { AreFound found.old }
+    ensures exact { Gives (λ _. found.new) result (session_from source.now.bytes.now source.now.tokens.now found.old) }
+    ensures fine { OnOk result (AreFound found.new) }
+    ensures behind { OnOk result (found.old.next < found.new.next) }
+    ensures within { OnOk result (found.new.next ≤ length source.now.tokens.now) }
+{
+    let behind = behind_word(source, found);
+    named(
+        source.bytes,
+        found.sessions.as_slice(),
+        MOST_SESSIONS,
+        behind,
+    )?;
+    let declared = known(found);
+    let parsed = parse_session(
+        source.alloc,
+        &declared,
+        source.tokens,
+        source.bytes,
+        found.next,
+    )?;
+    found.next = parsed.next;
+    found.sessions.push(parsed.session)?;
+    Ok(())
+}
+
+/// One client more.
+#[tactic(auto, unfolding(crate::specs::Sections::client_from))]
+fn client(source: &Source<'_>, found: &mut Found) -> Result<(), SectionError>
+    requires from { found.old.next < length source.now.tokens.now }
+    requires cut { IsCut source.now.bytes.now 0 source.now.tokens.now }
+    requires fine { AreFound found.old }
+    ensures exact { Gives (λ _. found.new) result (client_from source.now.bytes.now source.now.tokens.now found.old) }
+    ensures fine { OnOk result (AreFound found.new) }
+    ensures behind { OnOk result (found.old.next < found.new.next) }
+    ensures within { OnOk result (found.new.next ≤ length source.now.tokens.now) }
+{
+    let behind = behind_word(source, found);
+    named(source.bytes, found.clients.as_slice(), MOST_CLIENTS, behind)?;
+    let declared = known(found);
+    let parsed = parse_client(
+        source.alloc,
+        &declared,
+        source.tokens,
+        source.bytes,
+        found.next,
+    )?;
+    found.next = parsed.next;
+    found.clients.push(parsed.client)?;
+    Ok(())
+}
+
+/// One section more, behind those that were found.
 #[tactic(auto, unfolding(crate::specs::Sections::section_from))]
-fn section_from(
-    alloc: Global,
-    bytes: &[u8],
-    tokens: &[Token],
-    from: u32,
-    found: &[Found],
-) -> Result<Found, ParseError>
-    requires short { length bytes.now < 2 ^ 32 }
-    requires few { length tokens.now < 2 ^ 32 }
-    requires cut { IsCut bytes.now 0 tokens.now }
-    requires from { from < length tokens.now }
-    ensures exact { Gives (λ f. f) result (section_from bytes.now tokens.now from found.now) }
-    ensures read { IfOk result IsRead }
-    ensures within { IfOk result (λ f. f.program.next ≤ length tokens.now) }
+fn section(source: &Source<'_>, found: &mut Found) -> Result<(), SectionError>
+    requires from { found.old.next < length source.now.tokens.now }
+    requires cut { IsCut source.now.bytes.now 0 source.now.tokens.now }
+    requires fine { AreFound found.old }
+    ensures exact { Gives (λ _. found.new) result (section_from source.now.bytes.now source.now.tokens.now found.old) }
+    ensures fine { OnOk result (AreFound found.new) }
+    ensures behind { OnOk result (found.old.next < found.new.next) }
+    ensures within { OnOk result (found.new.next ≤ length source.now.tokens.now) }
 {
-    let here = tokens.split_at(from as usize).1;
-    match sort_of(seen(bytes, here)) {
-        Sort::Program => found_at(alloc, bytes, tokens, from, found),
-        Sort::Later => Err(refused(Code2::Z2, place(bytes, here))),
-        Sort::Other => Err(refused(Code2::D1, place(bytes, here))),
+    let here = source.tokens.split_at(found.next as usize).1;
+    match sort_of(seen(source.bytes, here)) {
+        Sort::Program => program(source, found),
+        Sort::Recipe => recipe(source, found),
+        Sort::Session => session(source, found),
+        Sort::Client => client(source, found),
+        Sort::Other => Err(SectionError::refused(
+            DeckCode::Plain(Code2::D1),
+            place(source.bytes, here),
+        )),
     }
 }
 
-/// The sections from token `from` on, at most so many, behind those that were found.
-#[tactic(auto, unfolding(crate::specs::Sections::sections_from))]
-fn sections_from(
-    alloc: Global,
-    left: u32,
-    bytes: &[u8],
-    tokens: &[Token],
-    from: u32,
-    found: List<Found>,
-) -> Result<List<Found>, ParseError>
-    requires short { length bytes.now < 2 ^ 32 }
-    requires few { length tokens.now < 2 ^ 32 }
-    requires cut { IsCut bytes.now 0 tokens.now }
-    requires from { from ≤ length tokens.now }
-    requires fine { AreFound found }
-    requires enough { most_sections ≤ length found + left }
-    requires reached { end_of 0 found ≡ from }
-    ensures exact { Gives (λ all. all) result (sections_from left bytes.now tokens.now from found) }
+/// All sections of a text.
+#[tactic(auto, using(crate::proofs::Series::sections_more, crate::proofs::Series::sections_fail, crate::proofs::Series::sections_stop, crate::proofs::Series::nothing_kept))]
+pub(crate) fn sections(source: &Source<'_>) -> Result<Found, SectionError>
+    requires { IsCut source.now.bytes.now 0 source.now.tokens.now }
+    ensures exact { Gives (λ f. f) result (sections_of source.now.bytes.now source.now.tokens.now) }
     ensures fine { IfOk result AreFound }
-    ensures whole { IfOk result (λ all. end_of 0 all ≡ length tokens.now) }
+    ensures whole { IfOk result (λ f. f.next ≡ length source.now.tokens.now) }
 {
-    if left == 0 || from as usize >= tokens.len() {
-        return Ok(found);
+    let mut found = Found::nothing(source.alloc);
+    for _k in 0..source.tokens.len() {
+        if found.next as usize >= source.tokens.len() {
+            return Ok(found);
+        }
+        section(source, &mut found)?;
     }
-    let section = section_from(alloc, bytes, tokens, from, found.as_slice())?;
-    let next = section.program.next;
-    let mut found = found;
-    found.push(section)?;
-    sections_from(alloc, left - 1, bytes, tokens, next, found)
-}
-
-/// The sections of a text.
-pub(crate) fn sections(
-    alloc: Global,
-    bytes: &[u8],
-    tokens: &[Token],
-) -> Result<List<Found>, ParseError>
-    requires short { length bytes.now < 2 ^ 32 }
-    requires few { length tokens.now < 2 ^ 32 }
-    requires cut { IsCut bytes.now 0 tokens.now }
-    ensures exact { Gives (λ all. all) result (sections_of bytes.now tokens.now) }
-    ensures fine { IfOk result AreFound }
-    ensures whole { IfOk result (λ all. end_of 0 all ≡ length tokens.now) }
-{
-    sections_from(alloc, MOST_SECTIONS, bytes, tokens, 0, List::new(alloc))
+    Ok(found)
 }

@@ -3,7 +3,8 @@ use Rattle.std.proofs.Common.{◌≡◌, ℕ, List, length, take, Some, None, If
 use Rattle.std.proofs.lemmas.Bool.{cases_lt, lt-ltb}
 use Rattle.std.proofs.lemmas.List.{length-take-le, take_all}
 use Rattle.std.specs.Io.KnownBytes.{Appends}
-use Rattle.ch_deck.specs.Decks.{deck_of, most_bytes}
+use Rattle.ch_deck.specs.Decks.{deck_of}
+use Rattle.ch_deck.specs.Limits.{most_bytes}
 use Rattle.ch_io.specs.Streams.{AppendsPart}
 use Rattle.ch_run.specs.declared.words.Command.{Command}
 use Rattle.ch_run.specs.Answers.{Answers, AnswersInPart, IsAnswer, most_read}

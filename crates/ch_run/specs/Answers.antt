@@ -2,6 +2,7 @@
 use Rattle.std.specs.Prelude.{◌≡◌, ℕ, List, Option, Result, Ok, Err}
 use Rattle.std.specs.Io.KnownBytes.{Appends}
 use Rattle.ch_deck.specs.Decks.{deck_of}
+use Rattle.ch_deck.specs.Parts.{DeckParts}
 use Rattle.ch_deck.specs.declared.program.Program.{Program}
 use Rattle.ch_deck.specs.declared.refusal.Refused.{Refused}
 use Rattle.ch_deck.specs.Refusals.{refusal_line}
@@ -16,9 +17,9 @@ abbrev pub IsTextOf : Command → List Program → List ℕ → Type 0
 IsTextOf Eval programs text = text ≡ eval_text programs
 IsTextOf Show programs text = ShowsAll programs text
 
--- the status and the text of an accepted deck, or of a refusal
-abbrev pub IsAnswer : Command → Result (List Program) Refused → ℕ → List ℕ → Type 0
-IsAnswer c (Ok programs) status text = (status ≡ 0) × IsTextOf c programs text
+-- The status and the text of an accepted deck, or of a refusal. No command looks at recipes, sessions and clients yet.
+abbrev pub IsAnswer : Command → Result DeckParts Refused → ℕ → List ℕ → Type 0
+IsAnswer c (Ok deck) status text = (status ≡ 0) × IsTextOf c deck.programs text
 IsAnswer c (Err refusal) status text = (status ≡ 1) × (text ≡ refusal_line refusal)
 
 -- one byte more than an input may have is read, which tells one that is too long

@@ -1,5 +1,5 @@
 -- What a run does to its input and its output, by the status that it answers.
-use Rattle.std.specs.Prelude.{◌≡◌, ◌≢◌, ◌≤◌, ◌⊎◌, ℕ, List, Option, Some, None, IfSome, drop}
+use Rattle.std.specs.Prelude.{◌≡◌, ◌≤◌, ◌⊎◌, ℕ, List, Option, Some, None, IfSome, drop}
 use Rattle.std.specs.Io.KnownBytes.{Appends}
 use Rattle.ch_io.specs.Faults.{HasRisen}
 use Rattle.ch_io.specs.Streams.{AppendsPart}

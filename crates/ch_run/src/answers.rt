@@ -37,7 +37,7 @@ fn refused(alloc: Global, refusal: &Refused) -> Result<Text, AllocError>
     Ok(text)
 }
 
-/// What a command answers to an input.
+/// What a command answers to an input: of a deck it looks at the programs alone.
 pub(crate) fn answer_to(alloc: Global, command: Command, bytes: &[u8]) -> Result<Answer, AllocError>
     ensures shown { IfOk result (λ a. IsAnswer command (deck_of bytes.now) a.status a.text) }
     ensures status { IfOk result (λ a. a.status ≤ 1) }

@@ -2,4 +2,4 @@ use Rattle.std.proofs.Common.{length}
 use Rattle.ch_deck.proofs.deck.+first_unfit.Given as goal
 
 abbrev pub decreases-first_unfit : goal.decreases-first_unfit
-decreases-first_unfit l = length l.found.now
+decreases-first_unfit l = length l.programs.now
