@@ -1,0 +1,172 @@
+//! Two clients in threads of their own that measure by turns: each waits for the news that the
+//! other's report makes.
+
+ghost use Rattle.std.specs.Prelude.{◌≡◌, ◌≢◌, ◌+◌, ◌<◌, ◌≤◌, ℕ};
+ghost use Rattle.std.specs.Thread.{IsSync};
+ghost use Rattle.ch_book.specs.Books.{Holds, left_of, number_of};
+ghost use Rattle.ch_sessions.specs.Desks.{IsFirst, IsStill, SeatFits};
+
+use crate::plan::Plan;
+use crate::script::Alternation;
+use ch_book::{Book, Seat};
+use ch_session::Fetched;
+use std::alloc::Global;
+use std::sync::Wait;
+use std::thread;
+use std::thread::{Threads, join};
+
+/// How many turns a seat is given.
+pub(crate) const SEAT_TURNS: u64 = 10_000;
+
+/// How often the news are read in vain before a client gives up, so that the program ends.
+const LOOKS: u32 = 20_000_000;
+
+/// When a client measures: so often, first at these news, and then each time that they have risen
+/// by two. Each of its costs is one below the one before.
+#[derive(Clone, Copy)]
+struct Pace {
+    start: u64,
+    times: u32,
+    cost: u64,
+}
+
+/// Waits until the news are so many, for as long as it takes to read them very often.
+fn has_news(book: &Book<Plan>, seat: &mut Seat<Plan>, wanted: u64) -> bool
+    requires { SeatFits book.now seat.old }
+    ensures fits { SeatFits book.now seat.new }
+    ensures number { number_of seat.new ≡ number_of seat.old }
+{
+    for look in 0..LOOKS {
+        if book.news(seat) >= wanted {
+            return true;
+        }
+        thread::yield_now();
+    }
+    false
+}
+
+/// Fetches, and reports where it got a trial.
+fn measure<R: Wait>(
+    rt: &R,
+    alloc: Global,
+    book: &Book<Plan>,
+    seat: &mut Seat<Plan>,
+    call: u32,
+    cost: u64,
+) -> bool
+    requires { SeatFits book.now seat.old }
+    ensures fits { SeatFits book.now seat.new }
+    ensures number { number_of seat.new ≡ number_of seat.old }
+{
+    let client = seat.number();
+    if client >= 200 || seat.left() < 2 {
+        return false;
+    }
+    let Ok(Fetched::Trial { trial, .. }) = book.fetch(rt, alloc, seat, client) else {
+        return false;
+    };
+    let cost = cost.saturating_sub(u64::from(call));
+    book.report(rt, seat, client, trial, call, cost).is_ok()
+}
+
+/// One client's part.
+fn measure_by_turns<R: Wait>(
+    rt: &R,
+    alloc: Global,
+    book: &Book<Plan>,
+    mut seat: Seat<Plan>,
+    pace: Pace,
+) -> Seat<Plan>
+    requires { SeatFits book.now seat }
+    ensures fits { SeatFits book.now result }
+    ensures number { number_of result ≡ number_of seat }
+{
+    let mut wanted = pace.start;
+    for call in 0..pace.times {
+        if !has_news(book, &mut seat, wanted)
+            || !measure(rt, alloc, book, &mut seat, call + 1, pace.cost)
+        {
+            return seat;
+        }
+        wanted = wanted.saturating_add(2);
+    }
+    seat
+}
+
+/// A seat with this number, which the first seat holds.
+pub(crate) fn cut(
+    alloc: Global,
+    book: &Book<Plan>,
+    rest: &mut Seat<Plan>,
+    number: u32,
+) -> Seat<Plan>
+    requires fits { SeatFits book.now rest.old }
+    requires number { (number < 200) × (number_of rest.old ≡ 65535) × Holds rest.old number }
+    requires turns { 10000 ≤ left_of rest.old }
+    ensures rest { IsStill book.now rest.old rest.new }
+    ensures turns { left_of rest.new + 10000 ≡ left_of rest.old }
+    ensures others { (n : ℕ) → Holds rest.old n → n ≢ number → Holds rest.new n }
+    ensures seat { SeatFits book.now result × (number_of result ≡ number) }
+{
+    match book.split(alloc, rest, number, SEAT_TURNS) {
+        Ok(seat) => seat,
+        Err(_) => unreachable!(),
+    }
+}
+
+/// The seat is no longer needed.
+pub(crate) fn take_in(book: &Book<Plan>, rest: &mut Seat<Plan>, seat: Seat<Plan>)
+    requires rest { SeatFits book.now rest.old }
+    requires seat { SeatFits book.now seat }
+    ensures rest { IsStill book.now rest.old rest.new }
+    ensures ours { (n : ℕ) → Holds rest.old n → Holds rest.new n }
+    ensures theirs { Holds rest.new (number_of seat) }
+{
+    // It tells that the seat holds its own number.
+    let _ = seat.number();
+    book.join(rest, seat);
+}
+
+/// Starts the two clients, and takes their seats in again.
+pub(crate) fn alternate<R: Threads + Wait + Sync>(
+    rt: &R,
+    alloc: Global,
+    book: &Book<Plan>,
+    rest: &mut Seat<Plan>,
+    turns: Alternation,
+)
+    requires rest { IsFirst book.now rest.old }
+    requires small { (turns.first < 200) × (turns.second < 200) }
+    requires apart { turns.first ≢ turns.second }
+    requires held { Holds rest.old turns.first × Holds rest.old turns.second }
+    requires turns { 20000 ≤ left_of rest.old }
+    ensures rest { IsStill book.now rest.old rest.new }
+    ensures held { (n : ℕ) → Holds rest.old n → Holds rest.new n }
+{
+    let first = cut(alloc, book, rest, turns.first);
+    let second = cut(alloc, book, rest, turns.second);
+    let start = book.news(rest);
+    let early = Pace {
+        start,
+        times: turns.times,
+        cost: turns.cost,
+    };
+    let late = Pace {
+        start: start.saturating_add(1),
+        times: turns.times,
+        cost: turns.cost,
+    };
+    let (first, second) = join(
+        rt,
+        move || -> Seat<Plan>
+            requires { SeatFits book.now first }
+            ensures { IsStill book.entry.now first result }
+        { measure_by_turns(rt, alloc, book, first, early) },
+        move || -> Seat<Plan>
+            requires { SeatFits book.now second }
+            ensures { IsStill book.entry.now second result }
+        { measure_by_turns(rt, alloc, book, second, late) },
+    );
+    take_in(book, rest, first);
+    take_in(book, rest, second);
+}
