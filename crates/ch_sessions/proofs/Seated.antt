@@ -9,7 +9,7 @@ use Rattle.ch_book.specs.Books.{Holds, number_of}
 use Rattle.ch_session.specs.declared.event.Event.{Event}
 use Rattle.ch_session.specs.declared.session.Session.{Session}
 use Rattle.ch_turn.specs.declared.listed.Listed.{Ghosts}
-use Rattle.ch_sessions.specs.Desks.{DeskFits, IsOut, SeatFits, SeatsAre}
+use Rattle.ch_sessions.specs.Desks.{DeskFits, IsFirst, IsOut, SeatsAre}
 use Rattle.ch_sessions.specs.declared.desk.Desk.{Desk}
 use Rattle.ch_sessions.specs.declared.plan.Plan.{Plan}
 
@@ -60,17 +60,15 @@ module _ {G : Ghosts (Session Plan) Event} where
   -- a desk has made a call
   pub one_changed : (b : Book Plan) (rest : Seat Plan G) (ds : List Desk) (i : ℕ) (e : Desk) → SeatsAre b rest ds → number_of e.seat ≡ number_of (get_or ds i e).seat → DeskFits b e.seat e.jobs.items → SeatsAre b rest (set ds i e)
   one_changed b rest ds i e s same fits = record {
-    number = s.number;
-    rest = s.rest;
+    first = s.first;
     held = λ n small none. s.held n small (λ o. none (out_set n ds i e same o));
     desks = All-set (λ (d : Desk). DeskFits b d.seat d.jobs.items) ds i e fits s.desks;
   }
 
   -- a seat was split off
-  pub one_more : (b : Book Plan) (rest z : Seat Plan G) (ds : List Desk) (e : Desk) → SeatsAre b rest ds → number_of z ≡ number_of rest → SeatFits b z → ((n : ℕ) → Holds rest n → n ≢ number_of e.seat → Holds z n) → DeskFits b e.seat e.jobs.items → SeatsAre b z (ds ++ e ∷ [])
-  one_more b rest z ds e s same after others fits = record {
-    number = same ∙ s.number;
-    rest = after;
+  pub one_more : (b : Book Plan) (rest z : Seat Plan G) (ds : List Desk) (e : Desk) → SeatsAre b rest ds → IsFirst b z → ((n : ℕ) → Holds rest n → n ≢ number_of e.seat → Holds z n) → DeskFits b e.seat e.jobs.items → SeatsAre b z (ds ++ e ∷ [])
+  one_more b rest z ds e s after others fits = record {
+    first = after;
     held = λ n small none. others n (s.held n small (λ o. none (out_pushed n ds e o))) (λ p. none (out_last n ds e (sym p)));
     desks = All-push (λ (d : Desk). DeskFits b d.seat d.jobs.items) ds e s.desks fits;
   }
@@ -87,28 +85,25 @@ module _ {G : Ghosts (Session Plan) Event} where
       here (inr f) = ours (held (λ o. apart f.1 (less o)))
 
   -- a seat was taken in
-  pub one_less : (b : Book Plan) (rest z : Seat Plan G) (ds : List Desk) (i : ℕ) (e : Desk) → SeatsAre b rest ds → i < length ds → e ≡ get_or ds i e → number_of z ≡ number_of rest → SeatFits b z → ((n : ℕ) → Holds rest n → Holds z n) → Holds z (number_of e.seat) → SeatsAre b z (remove ds i)
-  one_less b rest z ds i e s h is same after ours theirs = record {
-    number = same ∙ s.number;
-    rest = after;
+  pub one_less : (b : Book Plan) (rest z : Seat Plan G) (ds : List Desk) (i : ℕ) (e : Desk) → SeatsAre b rest ds → i < length ds → e ≡ get_or ds i e → IsFirst b z → ((n : ℕ) → Holds rest n → Holds z n) → Holds z (number_of e.seat) → SeatsAre b z (remove ds i)
+  one_less b rest z ds i e s h is after ours theirs = record {
+    first = after;
     held = λ n small none. taken rest z e ds (remove ds i) n (out_removed n ds i e is h) (s.held n small) (ours n) theirs none;
     desks = All-append (λ (d : Desk). DeskFits b d.seat d.jobs.items) (take i ds) (drop (suc i) ds) (All-take (λ (d : Desk). DeskFits b d.seat d.jobs.items) i ds s.desks) (All-drop (λ (d : Desk). DeskFits b d.seat d.jobs.items) (suc i) ds s.desks);
   }
 
   -- the last seat was taken in
-  pub last_less : (b : Book Plan) (rest z : Seat Plan G) (ds : List Desk) (e : Desk) → SeatsAre b rest (ds ++ e ∷ []) → number_of z ≡ number_of rest → SeatFits b z → ((n : ℕ) → Holds rest n → Holds z n) → Holds z (number_of e.seat) → All (λ (d : Desk). DeskFits b d.seat d.jobs.items) ds → SeatsAre b z ds
-  last_less b rest z ds e s same after ours theirs all = record {
-    number = same ∙ s.number;
-    rest = after;
+  pub last_less : (b : Book Plan) (rest z : Seat Plan G) (ds : List Desk) (e : Desk) → SeatsAre b rest (ds ++ e ∷ []) → IsFirst b z → ((n : ℕ) → Holds rest n → Holds z n) → Holds z (number_of e.seat) → All (λ (d : Desk). DeskFits b d.seat d.jobs.items) ds → SeatsAre b z ds
+  last_less b rest z ds e s after ours theirs all = record {
+    first = after;
     held = λ n small none. taken rest z e (ds ++ e ∷ []) ds n (out_popped n ds e) (s.held n small) (ours n) theirs none;
     desks = all;
   }
 
   -- the first seat holds as much as before
-  pub rest_changed : (b : Book Plan) (rest z : Seat Plan G) (ds : List Desk) → SeatsAre b rest ds → number_of z ≡ number_of rest → SeatFits b z → ((n : ℕ) → Holds rest n → Holds z n) → SeatsAre b z ds
-  rest_changed b rest z ds s same after ours = record {
-    number = same ∙ s.number;
-    rest = after;
+  pub rest_changed : (b : Book Plan) (rest z : Seat Plan G) (ds : List Desk) → SeatsAre b rest ds → IsFirst b z → ((n : ℕ) → Holds rest n → Holds z n) → SeatsAre b z ds
+  rest_changed b rest z ds s after ours = record {
+    first = after;
     held = λ n small none. ours n (s.held n small none);
     desks = s.desks;
   }

@@ -40,16 +40,21 @@ module _ {G : Ghosts (Session Plan) Event} where
     pub jobs : All (IsJob (first_of b).theme (seen s)) list
 
 module _ {G : Ghosts (Session Plan) Event} where
+  -- such a seat with this number
+  abbrev pub IsSeat : Book Plan → ℕ → Seat Plan G → Type 0
+  IsSeat b n s = SeatFits b s × (number_of s ≡ n)
+
   -- the seat that a book was started with
   abbrev pub IsFirst : Book Plan → Seat Plan G → Type 0
-  IsFirst b s = SeatFits b s × (number_of s ≡ 65535)
+  IsFirst b s = IsSeat b 65535 s
+
+  -- a client's or builder's seat, out of its turn
+  abbrev pub IsClient : Book Plan → Seat Plan G → Type 0
+  IsClient b s = IsOf b (number_of s) s × (number_of s < 200)
 
   -- z is s after calls that leave its number
   abbrev pub IsStill : Book Plan → Seat Plan G → Seat Plan G → Type 0
-  IsStill b s z = SeatFits b z × (number_of z ≡ number_of s)
-
-  abbrev pub HoldsBelow : ℕ → Seat Plan G → Type 0
-  HoldsBelow limit s = (n : ℕ) → n < limit → Holds s n
+  IsStill b s z = IsSeat b (number_of s) z
 
   -- a turn is left, for a client or builder
   abbrev pub MayCall : Seat Plan G → Type 0
@@ -66,8 +71,7 @@ IsOut n (d ∷ ds) = (number_of d.seat ≡ n) ⊎ IsOut n ds
 
 -- the first seat holds each number that no desk has
 pub record SeatsAre {G : Ghosts (Session Plan) Event} (b : Book Plan) (s : Seat Plan G) (list : List Desk) : Type 0 where
-  pub number : number_of s ≡ 65535
-  pub rest : SeatFits b s
+  pub first : IsFirst b s
   pub held : (n : ℕ) → n < 65536 → (IsOut n list → ⊥) → Holds s n
   pub desks : All (λ (d : Desk). DeskFits b d.seat d.jobs.items) list
 

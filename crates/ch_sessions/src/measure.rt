@@ -1,13 +1,12 @@
 //! How long calls of a book take, by one thread and by four, beside what the session does. It is
 //! run by hand.
 
-ghost use Rattle.std.specs.Prelude.{◌≡◌, ◌-◌, ◌≤◌};
-ghost use Rattle.std.specs.Thread.{IsSync};
-ghost use Rattle.ch_book.specs.Books.{number_of};
-ghost use Rattle.ch_sessions.specs.Desks.{HoldsBelow, IsFirst, SeatFits};
+ghost use Rattle.std.specs.Prelude.{◌≤◌, ◌*◌, ◌^◌};
+ghost use Rattle.ch_book.specs.Books.{HoldsAll, left_of};
+ghost use Rattle.ch_sessions.specs.Desks.{IsClient, IsFirst};
 
 use crate::plan::{Course, Plan};
-use crate::turns::{SEAT_TURNS, cut, take_in};
+use crate::turns::cut;
 use anyhow::Result;
 use ch_affine::List;
 use ch_book::{Book, Seat};
@@ -27,42 +26,34 @@ enum Work {
     News(u32),
 }
 
-/// The most turns that are taken of a book.
+/// The turns of each client's seat.
+const CLIENT_TURNS: u64 = 1 << 32;
+
+/// The turns that are taken of a book.
 const TURNS: u64 = 1 << 40;
 
-fn leave_often<R: Wait>(rt: &R, book: &Book<Plan>, mut seat: Seat<Plan>, count: u32) -> Seat<Plan>
-    requires { SeatFits book.now seat }
-    ensures fits { SeatFits book.now result }
-    ensures number { number_of result ≡ number_of seat }
+fn leave_often<R: Wait>(rt: &R, book: &Book<Plan>, mut seat: Seat<Plan>, count: u32)
+    requires { IsClient book.now seat }
 {
     let client = seat.number();
-    if client >= 200 {
-        return seat;
-    }
-    for call in 0..count {
+    for _call in 0..count {
         if seat.left() == 0 {
-            return seat;
+            return;
         }
         book.leave(rt, &mut seat, client);
     }
-    seat
 }
 
-fn read_often(book: &Book<Plan>, mut seat: Seat<Plan>, count: u32) -> Seat<Plan>
-    requires { SeatFits book.now seat }
-    ensures fits { SeatFits book.now result }
-    ensures number { number_of result ≡ number_of seat }
+fn read_often(book: &Book<Plan>, mut seat: Seat<Plan>, count: u32)
+    requires { IsClient book.now seat }
 {
-    for call in 0..count {
+    for _call in 0..count {
         book.news(&mut seat);
     }
-    seat
 }
 
-fn work_often<R: Wait>(rt: &R, book: &Book<Plan>, seat: Seat<Plan>, work: Work) -> Seat<Plan>
-    requires { SeatFits book.now seat }
-    ensures fits { SeatFits book.now result }
-    ensures number { number_of result ≡ number_of seat }
+fn work_often<R: Wait>(rt: &R, book: &Book<Plan>, seat: Seat<Plan>, work: Work)
+    requires { IsClient book.now seat }
 {
     match work {
         Work::Leave(count) => leave_often(rt, book, seat, count),
@@ -70,56 +61,83 @@ fn work_often<R: Wait>(rt: &R, book: &Book<Plan>, seat: Seat<Plan>, work: Work) 
     }
 }
 
-/// Seats of the numbers below `threads`, each in a thread of its own, from the greatest on.
-fn work_in_threads<R: Threads + Wait + Sync>(
+fn on_one_thread<R: Wait>(
     rt: &R,
     alloc: Global,
     book: &Book<Plan>,
-    rest: Seat<Plan>,
-    threads: u32,
+    mut rest: Seat<Plan>,
     work: Work,
-) -> Seat<Plan>
-    requires rest { IsFirst book.now rest }
-    requires few { threads ≤ 200 }
-    requires numbers { HoldsBelow threads rest }
-    ensures { IsFirst book.now result }
+)
+    requires rest { IsFirst book.now rest × HoldsAll rest }
+    requires turns { 2 ^ 32 ≤ left_of rest }
 {
-    let mut rest = rest;
-    if threads == 0 || rest.left() < SEAT_TURNS {
-        return rest;
-    }
-    let mine = cut(alloc, book, &mut rest, threads - 1);
-    let (mine, rest) = join(
-        rt,
-        move || -> Seat<Plan>
-            requires { SeatFits book.now mine }
-            ensures { SeatFits book.entry.now result }
-        { work_often(rt, book, mine, work) },
-        move || -> Seat<Plan>
-            requires { IsSync R.row × IsFirst book.now rest × (threads - 1 ≤ 200)
-                × HoldsBelow (threads - 1) rest }
-            ensures { IsFirst book.entry.now result }
-        { work_in_threads(rt, alloc, book, rest, threads - 1, work) },
-    );
-    let mut rest = rest;
-    take_in(book, &mut rest, mine);
-    rest
+    let seat = cut(alloc, book, &mut rest, 0, CLIENT_TURNS);
+    work_often(rt, book, seat, work);
 }
 
-/// How many nanoseconds that many threads take in all.
+fn on_two_threads<R: Threads + Wait + Sync>(
+    rt: &R,
+    book: &Book<Plan>,
+    one: Seat<Plan>,
+    other: Seat<Plan>,
+    work: Work,
+)
+    requires one { IsClient book.now one }
+    requires other { IsClient book.now other }
+{
+    join(
+        rt,
+        move ||
+            requires { IsClient book.now one }
+        { work_often(rt, book, one, work) },
+        move ||
+            requires { IsClient book.now other }
+        { work_often(rt, book, other, work) },
+    );
+}
+
+fn on_four_threads<R: Threads + Wait + Sync>(
+    rt: &R,
+    alloc: Global,
+    book: &Book<Plan>,
+    mut rest: Seat<Plan>,
+    work: Work,
+)
+    requires rest { IsFirst book.now rest × HoldsAll rest }
+    requires turns { 4 * 2 ^ 32 ≤ left_of rest }
+{
+    let first = cut(alloc, book, &mut rest, 0, CLIENT_TURNS);
+    let second = cut(alloc, book, &mut rest, 1, CLIENT_TURNS);
+    let third = cut(alloc, book, &mut rest, 2, CLIENT_TURNS);
+    let fourth = cut(alloc, book, &mut rest, 3, CLIENT_TURNS);
+    join(
+        rt,
+        move ||
+            requires { IsClient book.now first × IsClient book.now second }
+        { on_two_threads(rt, book, first, second, work) },
+        move ||
+            requires { IsClient book.now third × IsClient book.now fourth }
+        { on_two_threads(rt, book, third, fourth, work) },
+    );
+}
+
+/// How many nanoseconds one thread takes, or four of them.
 fn book_time<R: Clock + Threads + Wait + Sync>(
     rt: &R,
     alloc: Global,
     course: &Course,
     threads: u32,
     work: Work,
-) -> Result<u64>
-    requires { threads ≤ 4 }
-{
+) -> Result<u64> {
     let session = course.start(alloc)?;
+    session.known();
     let (book, rest) = Book::start(alloc, session, TURNS)?;
     let start = Instant::now(rt)?;
-    work_in_threads(rt, alloc, &book, rest, threads, work);
+    if threads == 4 {
+        on_four_threads(rt, alloc, &book, rest, work);
+    } else {
+        on_one_thread(rt, alloc, &book, rest, work);
+    }
     let time = start.elapsed(rt)?;
     Ok(u64::try_from(time.as_nanos()).unwrap_or(u64::MAX))
 }
@@ -128,7 +146,7 @@ fn book_time<R: Clock + Threads + Wait + Sync>(
 fn session_time<R: Clock>(rt: &R, alloc: Global, course: &Course, count: u32) -> Result<u64> {
     let mut session = course.start(alloc)?;
     let start = Instant::now(rt)?;
-    for call in 0..count {
+    for _call in 0..count {
         session.leave(0);
     }
     let time = start.elapsed(rt)?;
@@ -161,16 +179,15 @@ fn put_book_time<R: Clock + Threads + Wait + Sync>(
     threads: u32,
     work: Work,
     out: &mut String,
-) -> Result<()>
-    requires { threads ≤ 4 }
-{
+) -> Result<()> {
     let time = book_time(rt, alloc, course, threads, work)?;
     let (name, count) = match work {
         Work::Leave(count) => ("book leave", count),
         Work::News(count) => ("book news", count),
     };
     write!(out, "threads {threads} ")?;
-    Ok(put_line(out, name, time, u64::from(threads) * u64::from(count))?)
+    let calls = u64::from(threads) * u64::from(count);
+    Ok(put_line(out, name, time, calls)?)
 }
 
 /// The grid of the sessions that are timed.

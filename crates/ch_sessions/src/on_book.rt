@@ -107,7 +107,7 @@ impl Table {
         }
         let jobs = copied(alloc, self.first.as_slice())?;
         self.desks.reserve(1)?;
-        let seat = cut(alloc, &self.shared.book, &mut self.rest, number);
+        let seat = cut(alloc, &self.shared.book, &mut self.rest, number, SEAT_TURNS);
         let place = self.desks.len();
         self.desks.push_reserved(Desk { seat, jobs });
         Ok(Some(place))

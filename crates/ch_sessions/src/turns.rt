@@ -2,9 +2,8 @@
 //! other's report makes.
 
 ghost use Rattle.std.specs.Prelude.{◌≡◌, ◌≢◌, ◌+◌, ◌<◌, ◌≤◌, ℕ};
-ghost use Rattle.std.specs.Thread.{IsSync};
 ghost use Rattle.ch_book.specs.Books.{Holds, left_of, number_of};
-ghost use Rattle.ch_sessions.specs.Desks.{IsFirst, IsStill, SeatFits};
+ghost use Rattle.ch_sessions.specs.Desks.{IsFirst, IsSeat, IsStill, SeatFits};
 
 use crate::plan::Plan;
 use crate::script::Alternation;
@@ -93,22 +92,23 @@ fn measure_by_turns<R: Wait>(
     seat
 }
 
-/// A seat with this number, which the first seat holds.
+/// A seat with this number, which the first seat holds, and with so many of its turns.
 pub(crate) fn cut(
     alloc: Global,
     book: &Book<Plan>,
     rest: &mut Seat<Plan>,
     number: u32,
+    turns: u64,
 ) -> Seat<Plan>
-    requires fits { SeatFits book.now rest.old }
-    requires number { (number < 200) × (number_of rest.old ≡ 65535) × Holds rest.old number }
-    requires turns { 10000 ≤ left_of rest.old }
-    ensures rest { IsStill book.now rest.old rest.new }
-    ensures turns { left_of rest.new + 10000 ≡ left_of rest.old }
+    requires rest { IsFirst book.now rest.old }
+    requires number { (number < 200) × Holds rest.old number }
+    requires turns { turns ≤ left_of rest.old }
+    ensures rest { IsFirst book.now rest.new }
+    ensures turns { left_of rest.new + turns ≡ left_of rest.old }
     ensures others { (n : ℕ) → Holds rest.old n → n ≢ number → Holds rest.new n }
-    ensures seat { SeatFits book.now result × (number_of result ≡ number) }
+    ensures seat { IsSeat book.now number result }
 {
-    match book.split(alloc, rest, number, SEAT_TURNS) {
+    match book.split(alloc, rest, number, turns) {
         Ok(seat) => seat,
         Err(_) => unreachable!(),
     }
@@ -116,9 +116,9 @@ pub(crate) fn cut(
 
 /// The seat is no longer needed.
 pub(crate) fn take_in(book: &Book<Plan>, rest: &mut Seat<Plan>, seat: Seat<Plan>)
-    requires rest { SeatFits book.now rest.old }
+    requires rest { IsFirst book.now rest.old }
     requires seat { SeatFits book.now seat }
-    ensures rest { IsStill book.now rest.old rest.new }
+    ensures rest { IsFirst book.now rest.new }
     ensures ours { (n : ℕ) → Holds rest.old n → Holds rest.new n }
     ensures theirs { Holds rest.new (number_of seat) }
 {
@@ -140,11 +140,11 @@ pub(crate) fn alternate<R: Threads + Wait + Sync>(
     requires apart { turns.first ≢ turns.second }
     requires held { Holds rest.old turns.first × Holds rest.old turns.second }
     requires turns { 20000 ≤ left_of rest.old }
-    ensures rest { IsStill book.now rest.old rest.new }
+    ensures rest { IsFirst book.now rest.new }
     ensures held { (n : ℕ) → Holds rest.old n → Holds rest.new n }
 {
-    let first = cut(alloc, book, rest, turns.first);
-    let second = cut(alloc, book, rest, turns.second);
+    let first = cut(alloc, book, rest, turns.first, SEAT_TURNS);
+    let second = cut(alloc, book, rest, turns.second, SEAT_TURNS);
     let start = book.news(rest);
     let early = Pace {
         start,
