@@ -1,14 +1,16 @@
 -- What a seat knows it knows after each of its turns.
-use Rattle.std.proofs.Common.{◌≡◌, ℕ, ◌+◌, ◌<◌, ◌≤◌, true, List, [], ◌∷◌, ◌++◌, length, refl, sym, ap, ◌∙◌, subst, arith, append_assoc, All, Some, Bool, false, cond, ltb}
+use Rattle.std.proofs.Common.{◌≡◌, ℕ, ◌+◌, ◌<◌, ◌≤◌, true, List, [], ◌∷◌, ◌++◌, length, refl, sym, ap, ◌∙◌, subst, arith, append_assoc, All, Some, Bool, false, cond, ltb, slice_index_or}
 use Rattle.std.proofs.lemmas.List.Elements.{All-weaker}
 use Rattle.std.specs.Arc.{arc_value}
 use Rattle.ch_book.specs.declared.book.Book.{Book}
 use Rattle.ch_book.specs.declared.seat.Seat.{Seat}
 use Rattle.ch_book.specs.Books.{IsOf, IsTurn, first_of, number_of, seen, with_events}
 use Rattle.ch_rank.specs.Growth.{Keeps}
-use Rattle.ch_rank.specs.Search.{point_at}
+use Rattle.ch_rank.specs.Entries.{Searched, played}
+use Rattle.ch_rank.specs.Moves.{Point}
+use Rattle.ch_rank.specs.Search.{Game, point_at}
 use Rattle.ch_session.proofs.Legal.{points_keep}
-use Rattle.ch_session.specs.History.{Theme, game, is_legal, trials}
+use Rattle.ch_session.specs.History.{Theme, game, is_legal, searched, trials}
 use Rattle.ch_session.specs.Making.{Making}
 use Rattle.ch_session.specs.Replies.{BuiltFits, Past, after, trial_made}
 use Rattle.ch_session.specs.declared.event.Event.{Event}
@@ -18,7 +20,7 @@ use Rattle.ch_session.specs.declared.replies.Job.{Job}
 use Rattle.ch_session.specs.declared.session.Session.{Session}
 use Rattle.ch_turn.specs.History.{IsPrefix, longer}
 use Rattle.ch_turn.specs.declared.listed.Listed.{Ghosts}
-use Rattle.ch_sessions.specs.Desks.{DeskFits, IsBuild, IsJob, SeatFits}
+use Rattle.ch_sessions.specs.Desks.{DeskFits, IsBuild, IsJob, IsSeat, IsStill, SeatFits, Stays}
 use Rattle.ch_sessions.specs.Plans.{IsAbout, IsPlanFor, made_from, making_at, theme_of}
 use Rattle.ch_sessions.specs.declared.plan.Course.{Course}
 use Rattle.ch_sessions.specs.declared.plan.Plan.{Plan}
@@ -53,18 +55,57 @@ module _ {G : Ghosts (Session Plan) Event} where
         jobs = All-weaker (IsJob th (seen s)) (IsJob th (seen z)) (job_stays th (seen s) (seen z) after.legal (seen_later b s z h added t)) jobs f.jobs;
       }
 
-  -- a seat that has read the news
-  pub seat_read : (b : Book Plan) (s z : Seat Plan G) → IsOf b (number_of s) z → seen z ≡ seen s → SeatFits b s → SeatFits b z
-  seat_read b s z i e f = record {
-    seat = own_seat b (number_of s) z i;
-    legal = subst (λ (v : List Event). is_legal (first_of b).theme v ≡ true) (sym e) f.legal;
-  }
+  pub stays_after : (b : Book Plan) (s z : Seat Plan G) (jobs : List Job) (h added : List Event) → IsTurn b s z h added → DeskFits b s jobs → Stays b s z jobs
+  stays_after b s z jobs h added t f = (desk_after b s z jobs h added t f, t.seat.1)
+
+  pub still_after : (b : Book Plan) (s z : Seat Plan G) (h added : List Event) → IsTurn b s z h added → IsStill b s z
+  still_after b s z h added t = (seat_after b s z h added t, t.seat.1)
+
+  pub still_then : (b : Book Plan) (s y z : Seat Plan G) → IsStill b s y → IsStill b y z → IsStill b s z
+  still_then b s y z p q = (q.0, q.1 ∙ p.1)
+
+  -- a seat that has seen what another one has, with a number of its own
+  pub seat_alike : (b : Book Plan) (n : ℕ) (s z : Seat Plan G) → IsOf b n z → seen z ≡ seen s → SeatFits b s → IsSeat b n z
+  seat_alike b n s z i e f = (
+    record {
+      seat = own_seat b n z i;
+      legal = subst (λ (v : List Event). is_legal (first_of b).theme v ≡ true) (sym e) f.legal;
+    },
+    i.1,
+  )
 
   pub desk_read : (b : Book Plan) (s z : Seat Plan G) (jobs : List Job) → IsOf b (number_of s) z → seen z ≡ seen s → DeskFits b s jobs → DeskFits b z jobs
   desk_read b s z jobs i e f = record {
-    seat = seat_read b (number_of s) s z i e f.seat;
+    seat = (seat_alike b (number_of s) s z i e f.seat).0;
     jobs = subst (λ (v : List Event). All (IsJob (first_of b).theme v) jobs) (sym e) f.jobs;
   }
+
+  pub stays_read : (b : Book Plan) (s z : Seat Plan G) (jobs : List Job) → IsOf b (number_of s) z → seen z ≡ seen s → DeskFits b s jobs → Stays b s z jobs
+  stays_read b s z jobs i e f = (desk_read b s z jobs i e f, i.1)
+
+-- a trial of the session's search, with its point
+pub job_here : (p : Past) (s : Searched) (t : ℕ) (x : Point) → s ≡ record (searched p.theme p.events) { spare = s.spare } → t < length (played s).points → x ≡ slice_index_or (played s).points t [] → IsJob p.theme p.events (record { trial = t; point = x })
+job_here p s t x e h k =
+    let g : played s ≡ game p.theme p.events = ap (λ (v : Searched). played v) e in
+    (subst (λ (v : Game). t < length v.points) g h, k ∙ ap (λ (v : Game). slice_index_or v.points t []) g)
+
+-- the first seat of a book round a session without events
+pub first_seat : {G : Ghosts (Session Plan) Event} (b : Book Plan) (s : Seat Plan G) (p : Past) → first_of b ≡ p → p.events ≡ [] → is_legal p.theme p.events ≡ true → IsOf b 65535 s → seen s ≡ [] → IsSeat b 65535 s
+first_seat b s p e n l i v =
+    let h : seen s ≡ p.events = v ∙ sym n in (
+      record {
+        seat = own_seat b 65535 s i;
+        legal = (λ i. is_legal (e i).theme (h i)) ∙ l;
+      },
+      i.1,
+    )
+
+-- a new seat knows the jobs of the first simplex
+pub desk_made : {G : Ghosts (Session Plan) Event} (b : Book Plan) (s : Seat Plan G) (jobs copies : List Job) → SeatFits b s → copies ≡ jobs → All (IsJob (first_of b).theme []) jobs → DeskFits b s copies
+desk_made b s jobs copies f e k = record {
+  seat = f;
+  jobs = subst (λ (v : List Job). All (IsJob (first_of b).theme (seen s)) v) (sym e) (All-weaker (IsJob (first_of b).theme []) (IsJob (first_of b).theme (seen s)) (job_stays (first_of b).theme [] (seen s) f.legal (seen s, refl)) jobs k);
+}
 
 legal_longer : (th : Theme) (xs ys : List Event) → is_legal th xs ≡ true → is_legal th ys ≡ true → is_legal th (longer xs ys) ≡ true
 legal_longer th xs ys p q = at (ltb (length xs) (length ys))
@@ -74,18 +115,22 @@ legal_longer th xs ys p q = at (ltb (length xs) (length ys))
     at false = p
 
 -- a seat that has taken another one in
-pub seat_joined : {G : Ghosts (Session Plan) Event} (b : Book Plan) (s o z : Seat Plan G) → IsOf b (number_of s) z → seen z ≡ longer (seen s) (seen o) → SeatFits b s → SeatFits b o → SeatFits b z
-seat_joined b s o z i e f g = record {
-  seat = own_seat b (number_of s) z i;
-  legal = subst (λ (v : List Event). is_legal (first_of b).theme v ≡ true) (sym e) (legal_longer (first_of b).theme (seen s) (seen o) f.legal g.legal);
-}
+pub seat_joined : {G : Ghosts (Session Plan) Event} (b : Book Plan) (n : ℕ) (s o z : Seat Plan G) → IsOf b (number_of s) z → seen z ≡ longer (seen s) (seen o) → IsSeat b n s → SeatFits b o → IsSeat b n z
+seat_joined b n s o z i e f g = (
+  record {
+    seat = own_seat b (number_of s) z i;
+    legal = subst (λ (v : List Event). is_legal (first_of b).theme v ≡ true) (sym e) (legal_longer (first_of b).theme (seen s) (seen o) f.0.legal g.legal);
+  },
+  i.1 ∙ f.1,
+)
 
 -- what was built at the job's point fits its trial
 pub build_fits : (c : Course) (p : Past) (j : Job) (o : Built Plan) → IsAbout c p → IsJob p.theme p.events j → IsPlanFor (theme_of c) j.point o → IsBuild p j.trial o
 build_fits c p j (builds.Refused r) a f m = (f.0, tt)
 build_fits c p j (builds.Good v) a f m =
-    let made : made_from (arc_value v) ≡ making_at p.theme (point_at (game p.theme p.events) j.trial) = m ∙ (λ i. making_at (a.1 (neg i)) (f.1 i)) in
-    (f.0, made ∙ (λ i. record (trial_made p j.trial) { subject = a.0 (neg i) }))
+    let x : Point = point_at (game p.theme p.events) j.trial in
+    let made : made_from (arc_value v) ≡ making_at p.theme x = m ∙ (ap (λ (th : Theme). making_at th j.point) (sym a.1) ∙ ap (λ (y : Point). making_at p.theme y) f.1) in
+    (f.0, made ∙ ap (λ (n : ℕ). record (making_at p.theme x) { subject = n }) (sym a.0))
 
 -- a session is about the same course whatever its calls add
 pub about_after : (c : Course) (p q : Past) (more : List Event) → IsAbout c p → q ≡ after p more → IsAbout c q

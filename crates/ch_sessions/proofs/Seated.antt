@@ -1,6 +1,6 @@
 -- Which seats are out as they come and go.
 use Rattle.std.proofs.Common.{◌≡◌, ◌≢◌, ℕ, zero, suc, ◌+◌, ◌<◌, ◌≤◌, ◌⊎◌, inl, inr, List, [], ◌∷◌, ◌++◌, length, refl, sym, ap, ◌∙◌, subst, arith, All, set, get_or, take, drop, eqb, true, false}
-use Rattle.std.proofs.lemmas.List.Elements.{All-append, All-drop, All-head, All-push, All-set, All-tail, All-take}
+use Rattle.std.proofs.lemmas.List.Elements.{All-append, All-drop, All-get_or, All-head, All-push, All-set, All-tail, All-take}
 use Rattle.std.proofs.lemmas.Bool.Decides.{eqb_tells}
 use Rattle.std.specs.List.{remove}
 use Rattle.ch_book.specs.declared.book.Book.{Book}
@@ -18,13 +18,17 @@ not_out n [] a o = o
 not_out n (d ∷ ds) a (inl p) = All-head (λ (d : Desk). number_of d.seat ≢ n) d ds a p
 not_out n (d ∷ ds) a (inr o) = not_out n ds (All-tail (λ (d : Desk). number_of d.seat ≢ n) d ds a) o
 
+pub none_out : (n : ℕ) (ds : List Desk) → length ds ≡ 0 → IsOut n ds → ⊥
+none_out n [] e o = o
+none_out n (d ∷ ds) e o = absurd (omega (arith, e))
+
 -- the seat at a place may change, but not its number
-out_set : (n : ℕ) (ds : List Desk) (i : ℕ) (e : Desk) → number_of e.seat ≡ number_of (get_or ds i e).seat → IsOut n ds → IsOut n (set ds i e)
-out_set n [] i e same o = o
-out_set n (d ∷ ds) zero e same (inl p) = inl (same ∙ p)
-out_set n (d ∷ ds) zero e same (inr o) = inr o
-out_set n (d ∷ ds) (suc i) e same (inl p) = inl p
-out_set n (d ∷ ds) (suc i) e same (inr o) = inr (out_set n ds i e same o)
+out_set : (n : ℕ) (ds : List Desk) (i : ℕ) (d e : Desk) → d ≡ get_or ds i d → number_of e.seat ≡ number_of d.seat → IsOut n ds → IsOut n (set ds i e)
+out_set n [] i d e is same o = o
+out_set n (x ∷ ds) zero d e is same (inl p) = inl (same ∙ (ap (λ (v : Desk). number_of v.seat) is ∙ p))
+out_set n (x ∷ ds) zero d e is same (inr o) = inr o
+out_set n (x ∷ ds) (suc i) d e is same (inl p) = inl p
+out_set n (x ∷ ds) (suc i) d e is same (inr o) = inr (out_set n ds i d e is same o)
 
 out_pushed : (n : ℕ) (ds : List Desk) (e : Desk) → IsOut n ds → IsOut n (ds ++ e ∷ [])
 out_pushed n [] e o = absurd o
@@ -57,12 +61,15 @@ out_removed n (d ∷ ds) (suc i) e is h (inr o) = later (out_removed n ds i e is
     later (inr x) = inr x
 
 module _ {G : Ghosts (Session Plan) Event} where
+  pub desk_at : (b : Book Plan) (rest : Seat Plan G) (ds : List Desk) (i : ℕ) (d : Desk) → SeatsAre b rest ds → i < length ds → d ≡ get_or ds i d → DeskFits b d.seat d.jobs.items
+  desk_at b rest ds i d s h is = subst (λ (v : Desk). DeskFits b v.seat v.jobs.items) (sym is) (All-get_or (λ (v : Desk). DeskFits b v.seat v.jobs.items) ds i d h s.desks)
+
   -- a desk has made a call
-  pub one_changed : (b : Book Plan) (rest : Seat Plan G) (ds : List Desk) (i : ℕ) (e : Desk) → SeatsAre b rest ds → number_of e.seat ≡ number_of (get_or ds i e).seat → DeskFits b e.seat e.jobs.items → SeatsAre b rest (set ds i e)
-  one_changed b rest ds i e s same fits = record {
+  pub one_changed : (b : Book Plan) (rest : Seat Plan G) (ds : List Desk) (i : ℕ) (d e : Desk) → SeatsAre b rest ds → d ≡ get_or ds i d → number_of e.seat ≡ number_of d.seat → DeskFits b e.seat e.jobs.items → SeatsAre b rest (set ds i e)
+  one_changed b rest ds i d e s is same fits = record {
     first = s.first;
-    held = λ n small none. s.held n small (λ o. none (out_set n ds i e same o));
-    desks = All-set (λ (d : Desk). DeskFits b d.seat d.jobs.items) ds i e fits s.desks;
+    held = λ n small none. s.held n small (λ o. none (out_set n ds i d e is same o));
+    desks = All-set (λ (v : Desk). DeskFits b v.seat v.jobs.items) ds i e fits s.desks;
   }
 
   -- a seat was split off

@@ -60,6 +60,10 @@ module _ {G : Ghosts (Session Plan) Event} where
   abbrev pub MayCall : Seat Plan G → Type 0
   MayCall s = (0 < left_of s) × (number_of s < 200)
 
+  -- z is the desk's seat s after its calls, and these are its jobs
+  abbrev pub Stays : Book Plan → Seat Plan G → Seat Plan G → List Job → Type 0
+  Stays b s z list = DeskFits b z list × (number_of z ≡ number_of s)
+
   -- what came of a build fits the trial by what the seat has seen
   abbrev pub IsBuildBy : Book Plan → Seat Plan G → ℕ → Built Plan → Type 0
   IsBuildBy b s t o = IsBuild (with_events b (seen s)) t o

@@ -2,7 +2,7 @@
 
 use anyhow::Result;
 use ch_rank::Outcome;
-use ch_session::{Event, Job, Made, NotClaimed, NotLeased, Session};
+use ch_session::{ClaimError, Event, Fetched, Job, Made, NotClaimed, NotLeased, Session};
 use std::alloc::{AllocError, Global};
 
 /// A point, by the indices of its parameters.
@@ -24,12 +24,30 @@ pub(crate) fn job_text(alloc: Global, job: &Job) -> Result<String, AllocError> {
     format!(in alloc; "trial {trial} at {point}")
 }
 
-pub(crate) fn trial_text(alloc: Global, trial: u32, news: u64) -> Result<String, AllocError> {
-    format!(in alloc; "trial {trial} news {news}")
+/// Why there is no job, or the error that is none of the session's.
+pub(crate) fn no_job_text(alloc: Global, error: ClaimError) -> Result<String> {
+    match error {
+        ClaimError::NoJob => Ok(String::from_str(alloc, "N3")?),
+        ClaimError::Memory => Err(error.into()),
+    }
 }
 
-pub(crate) fn version_text(alloc: Global, version: u32, news: u64) -> Result<String, AllocError> {
-    format!(in alloc; "version {version} news {news}")
+pub(crate) fn fetched_text<V: Drop>(
+    alloc: Global,
+    fetched: Fetched<V>,
+) -> Result<String, AllocError> {
+    match fetched {
+        Fetched::Trial {
+            trial,
+            variant: _,
+            news,
+        } => format!(in alloc; "trial {trial} news {news}"),
+        Fetched::Current {
+            version,
+            variant: _,
+            news,
+        } => format!(in alloc; "version {version} news {news}"),
+    }
 }
 
 pub(crate) fn built_text(
@@ -64,15 +82,10 @@ pub(crate) fn leave_text(alloc: Global, has_left: bool) -> Result<String, AllocE
 }
 
 /// Whether two clients that measured by turns, each so often, raised the news each time.
-pub(crate) fn turns_text(
-    alloc: Global,
-    times: u32,
-    start: u64,
-    end: u64,
-) -> Result<String, AllocError> {
+pub(crate) fn turns_text(alloc: Global, times: u32, rise: u64) -> Result<String, AllocError> {
     String::from_str(
         alloc,
-        if end.saturating_sub(start) == 2 * u64::from(times) {
+        if rise == 2 * u64::from(times) {
             "done"
         } else {
             "not done"

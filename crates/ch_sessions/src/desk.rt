@@ -1,8 +1,8 @@
 //! A seat of a book, with what it knows of the search's points.
 
 ghost use Rattle.std.specs.Prelude.{◌≡◌, ◌<◌, IfOk, IfSome, IsTrue, length, slice_get, Some};
-ghost use Rattle.ch_book.specs.Books.{first_of, left_of, number_of, seen};
-ghost use Rattle.ch_sessions.specs.Desks.{DeskFits, IsBuildBy, IsCaller, IsJob, MayCall};
+ghost use Rattle.ch_book.specs.Books.{first_of, number_of, seen};
+ghost use Rattle.ch_sessions.specs.Desks.{DeskFits, IsBuildBy, IsCaller, IsJob, MayCall, Stays};
 ghost use Rattle.ch_sessions.specs.Plans.{IsAbout};
 
 use crate::answer;
@@ -10,7 +10,7 @@ use crate::plan::{Course, Plan};
 use crate::script::{Build, Call, Report};
 use anyhow::Result;
 use ch_book::{Book, Seat};
-use ch_session::{Built, ClaimError, Fetched, Job};
+use ch_session::{Built, ClaimError, Fetched, Job, NotClaimed, NotLeased};
 use std::alloc::{AllocError, Global};
 use std::sync::Wait;
 
@@ -49,6 +49,31 @@ impl Desk {
         self.seat.left() > 0 && self.seat.number() < 200 && client == self.seat.number()
     }
 
+    fn take_job<R: Wait>(
+        &mut self,
+        rt: &R,
+        alloc: Global,
+        shared: &Shared,
+        builder: u32,
+    ) -> Result<Job, ClaimError>
+        requires fits { DeskFits shared.now.book self.old.seat self.old.jobs.items }
+        requires call { MayCall self.old.seat × IsCaller (number_of self.old.seat) builder }
+        ensures desk { Stays shared.now.book self.old.seat self.new.seat self.new.jobs.items }
+        ensures job { IfOk result (IsJob (first_of shared.now.book).theme (seen self.new.seat)) }
+    {
+        shared.book.claim(rt, alloc, &mut self.seat, builder)
+    }
+
+    /// From now on the seat knows the point of the job's trial.
+    fn keep(&mut self, _shared: &Shared, job: Job) -> Result<(), AllocError>
+        requires fits { DeskFits _shared.now.book self.old.seat self.old.jobs.items }
+        requires job { IsJob (first_of _shared.now.book).theme (seen self.old.seat) job }
+        ensures { Stays _shared.now.book self.old.seat self.new.seat self.new.jobs.items }
+    {
+        self.jobs.push(job)?;
+        Ok(())
+    }
+
     fn claim<R: Wait>(
         &mut self,
         rt: &R,
@@ -57,31 +82,19 @@ impl Desk {
         builder: u32,
     ) -> Result<String>
         requires { DeskFits shared.now.book self.old.seat self.old.jobs.items }
-        ensures fits { DeskFits shared.now.book self.new.seat self.new.jobs.items }
-        ensures number { number_of self.new.seat ≡ number_of self.old.seat }
+        ensures { Stays shared.now.book self.old.seat self.new.seat self.new.jobs.items }
     {
         if !self.may_call(builder) {
             return Ok(String::from_str(alloc, NO_CALL)?);
         }
-        match shared.book.claim(rt, alloc, &mut self.seat, builder) {
-            Err(ClaimError::NoJob) => Ok(String::from_str(alloc, "N3")?),
-            reply => {
-                let job = reply?;
+        match self.take_job(rt, alloc, shared, builder) {
+            Ok(job) => {
                 let text = answer::job_text(alloc, &job)?;
                 self.keep(shared, job)?;
                 Ok(text)
             }
+            Err(error) => answer::no_job_text(alloc, error),
         }
-    }
-
-    fn keep(&mut self, _shared: &Shared, job: Job) -> Result<(), AllocError>
-        requires fits { DeskFits _shared.now.book self.old.seat self.old.jobs.items }
-        requires job { IsJob (first_of _shared.now.book).theme (seen self.old.seat) job }
-        ensures fits { DeskFits _shared.now.book self.new.seat self.new.jobs.items }
-        ensures number { number_of self.new.seat ≡ number_of self.old.seat }
-    {
-        self.jobs.push(job)?;
-        Ok(())
     }
 
     /// The place of the job with this trial.
@@ -117,6 +130,23 @@ impl Desk {
         Ok(Some(outcome))
     }
 
+    fn put_build<R: Wait>(
+        &mut self,
+        rt: &R,
+        shared: &Shared,
+        builder: u32,
+        trial: u32,
+        outcome: Built<Plan>,
+    ) -> Result<(), NotClaimed>
+        requires fits { DeskFits shared.now.book self.old.seat self.old.jobs.items }
+        requires call { MayCall self.old.seat × IsCaller (number_of self.old.seat) builder }
+        requires build { IsBuildBy shared.now.book self.old.seat trial outcome }
+        ensures { Stays shared.now.book self.old.seat self.new.seat self.new.jobs.items }
+    {
+        let book = &shared.book;
+        book.built(rt, &mut self.seat, builder, trial, outcome)
+    }
+
     fn built<R: Wait>(
         &mut self,
         rt: &R,
@@ -126,8 +156,7 @@ impl Desk {
     ) -> Result<String, AllocError>
         requires about { IsAbout shared.now.course (first_of shared.now.book) }
         requires fits { DeskFits shared.now.book self.old.seat self.old.jobs.items }
-        ensures fits { DeskFits shared.now.book self.new.seat self.new.jobs.items }
-        ensures number { number_of self.new.seat ≡ number_of self.old.seat }
+        ensures { Stays shared.now.book self.old.seat self.new.seat self.new.jobs.items }
     {
         let Build {
             builder,
@@ -140,9 +169,22 @@ impl Desk {
         let Some(outcome) = self.build(alloc, shared, trial, is_good)? else {
             return String::from_str(alloc, "no such trial");
         };
-        let book = &shared.book;
-        let reply = book.built(rt, &mut self.seat, builder, trial, outcome);
+        let reply = self.put_build(rt, shared, builder, trial, outcome);
         answer::built_text(alloc, reply)
+    }
+
+    fn take_variant<R: Wait>(
+        &mut self,
+        rt: &R,
+        alloc: Global,
+        shared: &Shared,
+        client: u32,
+    ) -> Result<Fetched<Plan>, AllocError>
+        requires fits { DeskFits shared.now.book self.old.seat self.old.jobs.items }
+        requires call { MayCall self.old.seat × (client ≡ number_of self.old.seat) }
+        ensures { Stays shared.now.book self.old.seat self.new.seat self.new.jobs.items }
+    {
+        shared.book.fetch(rt, alloc, &mut self.seat, client)
     }
 
     fn fetch<R: Wait>(
@@ -153,24 +195,33 @@ impl Desk {
         client: u32,
     ) -> Result<String, AllocError>
         requires { DeskFits shared.now.book self.old.seat self.old.jobs.items }
-        ensures fits { DeskFits shared.now.book self.new.seat self.new.jobs.items }
-        ensures number { number_of self.new.seat ≡ number_of self.old.seat }
+        ensures { Stays shared.now.book self.old.seat self.new.seat self.new.jobs.items }
     {
         if !self.may_call_as_client(client) {
             return String::from_str(alloc, NO_CALL);
         }
-        match shared.book.fetch(rt, alloc, &mut self.seat, client)? {
-            Fetched::Trial {
-                trial,
-                variant: _,
-                news,
-            } => answer::trial_text(alloc, trial, news),
-            Fetched::Current {
-                version,
-                variant: _,
-                news,
-            } => answer::version_text(alloc, version, news),
-        }
+        let fetched = self.take_variant(rt, alloc, shared, client)?;
+        answer::fetched_text(alloc, fetched)
+    }
+
+    fn put_cost<R: Wait>(
+        &mut self,
+        rt: &R,
+        shared: &Shared,
+        report: Report,
+    ) -> Result<(), NotLeased>
+        requires fits { DeskFits shared.now.book self.old.seat self.old.jobs.items }
+        requires call { MayCall self.old.seat × (report.client ≡ number_of self.old.seat) }
+        ensures { Stays shared.now.book self.old.seat self.new.seat self.new.jobs.items }
+    {
+        let Report {
+            client,
+            trial,
+            call,
+            cost,
+        } = report;
+        let book = &shared.book;
+        book.report(rt, &mut self.seat, client, trial, call, cost)
     }
 
     fn report<R: Wait>(
@@ -181,21 +232,21 @@ impl Desk {
         report: Report,
     ) -> Result<String, AllocError>
         requires { DeskFits shared.now.book self.old.seat self.old.jobs.items }
-        ensures fits { DeskFits shared.now.book self.new.seat self.new.jobs.items }
-        ensures number { number_of self.new.seat ≡ number_of self.old.seat }
+        ensures { Stays shared.now.book self.old.seat self.new.seat self.new.jobs.items }
     {
-        let Report {
-            client,
-            trial,
-            call,
-            cost,
-        } = report;
-        if !self.may_call_as_client(client) {
+        if !self.may_call_as_client(report.client) {
             return String::from_str(alloc, NO_CALL);
         }
-        let book = &shared.book;
-        let reply = book.report(rt, &mut self.seat, client, trial, call, cost);
+        let reply = self.put_cost(rt, shared, report);
         answer::report_text(alloc, reply)
+    }
+
+    fn end_lease<R: Wait>(&mut self, rt: &R, shared: &Shared, client: u32) -> bool
+        requires fits { DeskFits shared.now.book self.old.seat self.old.jobs.items }
+        requires call { MayCall self.old.seat × (client ≡ number_of self.old.seat) }
+        ensures { Stays shared.now.book self.old.seat self.new.seat self.new.jobs.items }
+    {
+        shared.book.leave(rt, &mut self.seat, client)
     }
 
     fn leave<R: Wait>(
@@ -206,22 +257,27 @@ impl Desk {
         client: u32,
     ) -> Result<String, AllocError>
         requires { DeskFits shared.now.book self.old.seat self.old.jobs.items }
-        ensures fits { DeskFits shared.now.book self.new.seat self.new.jobs.items }
-        ensures number { number_of self.new.seat ≡ number_of self.old.seat }
+        ensures { Stays shared.now.book self.old.seat self.new.seat self.new.jobs.items }
     {
         if !self.may_call_as_client(client) {
             return String::from_str(alloc, NO_CALL);
         }
-        let has_left = shared.book.leave(rt, &mut self.seat, client);
+        let has_left = self.end_lease(rt, shared, client);
         answer::leave_text(alloc, has_left)
+    }
+
+    fn read_news(&mut self, shared: &Shared) -> u64
+        requires { DeskFits shared.now.book self.old.seat self.old.jobs.items }
+        ensures { Stays shared.now.book self.old.seat self.new.seat self.new.jobs.items }
+    {
+        shared.book.news(&mut self.seat)
     }
 
     fn news(&mut self, alloc: Global, shared: &Shared) -> Result<String, AllocError>
         requires { DeskFits shared.now.book self.old.seat self.old.jobs.items }
-        ensures fits { DeskFits shared.now.book self.new.seat self.new.jobs.items }
-        ensures number { number_of self.new.seat ≡ number_of self.old.seat }
+        ensures { Stays shared.now.book self.old.seat self.new.seat self.new.jobs.items }
     {
-        let news = shared.book.news(&mut self.seat);
+        let news = self.read_news(shared);
         format!(in alloc; "{news}")
     }
 
@@ -235,8 +291,7 @@ impl Desk {
     ) -> Result<String>
         requires about { IsAbout shared.now.course (first_of shared.now.book) }
         requires fits { DeskFits shared.now.book self.old.seat self.old.jobs.items }
-        ensures fits { DeskFits shared.now.book self.new.seat self.new.jobs.items }
-        ensures number { number_of self.new.seat ≡ number_of self.old.seat }
+        ensures { Stays shared.now.book self.old.seat self.new.seat self.new.jobs.items }
     {
         match call {
             Call::Claim { builder } => self.claim(rt, alloc, shared, builder),

@@ -53,11 +53,11 @@ fn main(rt: HostRuntime) -> Result<()> {
     let word = env::args(&rt)?.nth(1);
     let word = word.as_ref().map_or(".", |word| word.as_str());
     if word == "measure" {
-        let count = env::args(&rt)?.nth(2);
-        let count = count.as_ref().map_or("", |count| count.as_str());
-        let count = count.parse::<u32>().unwrap_or(1_000_000);
-        let mut times = String::new(alloc);
-        measure::put_times(&rt, alloc, count, &mut times)?;
+        let mut count = 1_000_000u32;
+        if let Some(number) = env::args(&rt)?.nth(2) {
+            count = number.parse().unwrap_or(1_000_000);
+        }
+        let times = measure::times(&rt, alloc, count)?;
         print!(rt; "{times}")?;
         return Ok(());
     }

@@ -200,19 +200,19 @@ fn small_course(alloc: Global) -> Result<Option<Course>, AllocError> {
     Course::of(alloc, List::from_slice(alloc, &[param])?, 1)
 }
 
-/// Times `leave` and `news`, so often by each thread.
-pub(crate) fn put_times<R: Clock + Threads + Wait + Sync>(
+/// The times of `leave` and `news`, each so often by each thread.
+pub(crate) fn times<R: Clock + Threads + Wait + Sync>(
     rt: &R,
     alloc: Global,
     count: u32,
-    out: &mut String,
-) -> Result<()> {
-    let Some(course) = small_course(alloc)? else {
-        return Ok(());
-    };
-    put_session_time(rt, alloc, &course, count, out)?;
-    put_book_time(rt, alloc, &course, 1, Work::Leave(count), out)?;
-    put_book_time(rt, alloc, &course, 1, Work::News(count), out)?;
-    put_book_time(rt, alloc, &course, 4, Work::Leave(count), out)?;
-    put_book_time(rt, alloc, &course, 4, Work::News(count), out)
+) -> Result<String> {
+    let mut out = String::new(alloc);
+    if let Some(course) = small_course(alloc)? {
+        put_session_time(rt, alloc, &course, count, &mut out)?;
+        put_book_time(rt, alloc, &course, 1, Work::Leave(count), &mut out)?;
+        put_book_time(rt, alloc, &course, 1, Work::News(count), &mut out)?;
+        put_book_time(rt, alloc, &course, 4, Work::Leave(count), &mut out)?;
+        put_book_time(rt, alloc, &course, 4, Work::News(count), &mut out)?;
+    }
+    Ok(out)
 }

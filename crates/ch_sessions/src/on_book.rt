@@ -1,7 +1,8 @@
 //! Scripts on a book: each client and builder has a seat of its own, from its first call until it
 //! is gone.
 
-ghost use Rattle.std.specs.Prelude.{◌≡◌, ◌<◌, [], IfOk, IfSome, All, None, length, false};
+ghost use Rattle.std.specs.Prelude.{◌≡◌, ◌<◌, ◌≤◌, [], IfOk, IfSome, All, None, length, false};
+ghost use Rattle.ch_book.specs.Books.{left_of};
 ghost use Rattle.ch_sessions.specs.Desks.{IsJob, IsOut, TableFits};
 
 use crate::answer;
@@ -89,7 +90,10 @@ impl Table {
     fn is_out(&self, number: u32) -> bool
         ensures { result ≡ false → IsOut number self.now.desks.items → ⊥ }
     {
-        self.place_of(number).is_some()
+        match self.place_of(number) {
+            Some(_) => true,
+            None => false,
+        }
     }
 
     /// The place of the seat with this number, which is made where there is none yet. None where
@@ -105,12 +109,23 @@ impl Table {
         if number >= 200 || self.rest.left() < SEAT_TURNS {
             return Ok(None);
         }
+        Ok(Some(self.sit(alloc, number)?))
+    }
+
+    /// Makes a seat with this number, and gives its place.
+    fn sit(&mut self, alloc: Global, number: u32) -> Result<usize, AllocError>
+        requires fits { TableFits self.old }
+        requires new { IsOut number self.old.desks.items → ⊥ }
+        requires turns { (number < 200) × (10000 ≤ left_of self.old.rest) }
+        ensures fits { TableFits self.new }
+        ensures place { IfOk result (λ i. i < length self.new.desks.items) }
+    {
         let jobs = copied(alloc, self.first.as_slice())?;
         self.desks.reserve(1)?;
         let seat = cut(alloc, &self.shared.book, &mut self.rest, number, SEAT_TURNS);
         let place = self.desks.len();
         self.desks.push_reserved(Desk { seat, jobs });
-        Ok(Some(place))
+        Ok(place)
     }
 
     fn at_desk<R: Wait>(&mut self, rt: &R, alloc: Global, number: u32, call: Call) -> Result<String>
@@ -156,10 +171,8 @@ impl Table {
         {
             return String::from_str(alloc, "no seats");
         }
-        let start = self.shared.book.news(&mut self.rest);
-        alternate(rt, alloc, &self.shared.book, &mut self.rest, turns);
-        let end = self.shared.book.news(&mut self.rest);
-        answer::turns_text(alloc, turns.times, start, end)
+        let rise = alternate(rt, alloc, &self.shared.book, &mut self.rest, turns);
+        answer::turns_text(alloc, turns.times, rise)
     }
 
     fn answer<R: Threads + Wait + Sync>(

@@ -7,7 +7,7 @@ use crate::plan::{Course, Plan};
 use crate::script::{Alternation, Build, Call, Report, call_of, course_of};
 use anyhow::Result;
 use ch_affine::List;
-use ch_session::{ClaimError, Fetched, Session};
+use ch_session::{Fetched, Session};
 use std::alloc::{AllocError, Global};
 
 /// A session and what it is about.
@@ -23,11 +23,8 @@ impl Solo {
         ensures { IsAbout self.new.course self.new.session }
     {
         match self.session.claim(alloc, builder) {
-            Err(ClaimError::NoJob) => Ok(String::from_str(alloc, "N3")?),
-            reply => {
-                let job = reply?;
-                Ok(answer::job_text(alloc, &job)?)
-            }
+            Ok(job) => Ok(answer::job_text(alloc, &job)?),
+            Err(error) => answer::no_job_text(alloc, error),
         }
     }
 
@@ -54,18 +51,8 @@ impl Solo {
         requires { IsAbout self.old.course self.old.session }
         ensures { IsAbout self.new.course self.new.session }
     {
-        match self.session.fetch(alloc, client)? {
-            Fetched::Trial {
-                trial,
-                variant: _,
-                news,
-            } => answer::trial_text(alloc, trial, news),
-            Fetched::Current {
-                version,
-                variant: _,
-                news,
-            } => answer::version_text(alloc, version, news),
-        }
+        let fetched = self.session.fetch(alloc, client)?;
+        answer::fetched_text(alloc, fetched)
     }
 
     fn report(&mut self, alloc: Global, report: Report) -> Result<String, AllocError>
@@ -110,7 +97,8 @@ impl Solo {
             self.measure(alloc, turns.first, call, turns.cost)?;
             self.measure(alloc, turns.second, call, turns.cost)?;
         }
-        answer::turns_text(alloc, turns.times, start, self.session.news())
+        let rise = self.session.news().saturating_sub(start);
+        answer::turns_text(alloc, turns.times, rise)
     }
 
     fn answer(&mut self, alloc: Global, call: Call) -> Result<String>

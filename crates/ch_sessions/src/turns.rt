@@ -32,8 +32,7 @@ struct Pace {
 /// Waits until the news are so many, for as long as it takes to read them very often.
 fn has_news(book: &Book<Plan>, seat: &mut Seat<Plan>, wanted: u64) -> bool
     requires { SeatFits book.now seat.old }
-    ensures fits { SeatFits book.now seat.new }
-    ensures number { number_of seat.new ≡ number_of seat.old }
+    ensures { IsStill book.now seat.old seat.new }
 {
     for look in 0..LOOKS {
         if book.news(seat) >= wanted {
@@ -54,8 +53,7 @@ fn measure<R: Wait>(
     cost: u64,
 ) -> bool
     requires { SeatFits book.now seat.old }
-    ensures fits { SeatFits book.now seat.new }
-    ensures number { number_of seat.new ≡ number_of seat.old }
+    ensures { IsStill book.now seat.old seat.new }
 {
     let client = seat.number();
     if client >= 200 || seat.left() < 2 {
@@ -77,8 +75,7 @@ fn measure_by_turns<R: Wait>(
     pace: Pace,
 ) -> Seat<Plan>
     requires { SeatFits book.now seat }
-    ensures fits { SeatFits book.now result }
-    ensures number { number_of result ≡ number_of seat }
+    ensures { IsStill book.now seat result }
 {
     let mut wanted = pace.start;
     for call in 0..pace.times {
@@ -108,10 +105,10 @@ pub(crate) fn cut(
     ensures others { (n : ℕ) → Holds rest.old n → n ≢ number → Holds rest.new n }
     ensures seat { IsSeat book.now number result }
 {
-    match book.split(alloc, rest, number, turns) {
-        Ok(seat) => seat,
-        Err(_) => unreachable!(),
-    }
+    let Ok(seat) = book.split(alloc, rest, number, turns) else {
+        unreachable!()
+    };
+    seat
 }
 
 /// The seat is no longer needed.
@@ -127,14 +124,23 @@ pub(crate) fn take_in(book: &Book<Plan>, rest: &mut Seat<Plan>, seat: Seat<Plan>
     book.join(rest, seat);
 }
 
-/// Starts the two clients, and takes their seats in again.
+/// The news, read through the first seat.
+fn first_news(book: &Book<Plan>, rest: &mut Seat<Plan>) -> u64
+    requires { IsFirst book.now rest.old }
+    ensures rest { IsFirst book.now rest.new }
+    ensures held { (n : ℕ) → Holds rest.old n → Holds rest.new n }
+{
+    book.news(rest)
+}
+
+/// Starts the two clients, and takes their seats in again. Says by how much the news have risen.
 pub(crate) fn alternate<R: Threads + Wait + Sync>(
     rt: &R,
     alloc: Global,
     book: &Book<Plan>,
     rest: &mut Seat<Plan>,
     turns: Alternation,
-)
+) -> u64
     requires rest { IsFirst book.now rest.old }
     requires small { (turns.first < 200) × (turns.second < 200) }
     requires apart { turns.first ≢ turns.second }
@@ -145,7 +151,7 @@ pub(crate) fn alternate<R: Threads + Wait + Sync>(
 {
     let first = cut(alloc, book, rest, turns.first, SEAT_TURNS);
     let second = cut(alloc, book, rest, turns.second, SEAT_TURNS);
-    let start = book.news(rest);
+    let start = first_news(book, rest);
     let early = Pace {
         start,
         times: turns.times,
@@ -169,4 +175,5 @@ pub(crate) fn alternate<R: Threads + Wait + Sync>(
     );
     take_in(book, rest, first);
     take_in(book, rest, second);
+    first_news(book, rest).saturating_sub(start)
 }
