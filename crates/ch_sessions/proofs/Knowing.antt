@@ -32,17 +32,34 @@ job_stays th h g l p j f =
     let there : j.trial < trials th g = omega (arith, f.0, k.long) in
     (there, f.1 ∙ sym (k.same j.trial f.0))
 
-module _ {G : Ghosts (Session Plan) Event} where
+module _ {V : Type 0} {G : Ghosts (Session V) Event} where
   -- a seat of the book by another name of its number
-  pub own_seat : (b : Book Plan) (n : ℕ) (s : Seat Plan G) → IsOf b n s → IsOf b (number_of s) s
+  pub own_seat : (b : Book V) (n : ℕ) (s : Seat V G) → IsOf b n s → IsOf b (number_of s) s
   own_seat b n s i = subst (λ (m : ℕ). IsOf b m s) (sym i.1) i
 
-  pub seat_after : (b : Book Plan) (s z : Seat Plan G) (h added : List Event) → IsTurn b s z h added → SeatFits b z
+  pub seat_after : (b : Book V) (s z : Seat V G) (h added : List Event) → IsTurn b s z h added → SeatFits b z
   seat_after b s z h added t = record {
     seat = own_seat b (number_of s) z t.seat;
     legal = subst (λ (v : List Event). is_legal (first_of b).theme v ≡ true) (sym t.seen_is) t.legal;
   }
 
+  pub still_after : (b : Book V) (s z : Seat V G) (h added : List Event) → IsTurn b s z h added → IsStill b s z
+  still_after b s z h added t = (seat_after b s z h added t, t.seat.1)
+
+  pub still_then : (b : Book V) (s y z : Seat V G) → IsStill b s y → IsStill b y z → IsStill b s z
+  still_then b s y z p q = (q.0, q.1 ∙ p.1)
+
+  -- a seat that has seen what another one has, with a number of its own
+  pub seat_alike : (b : Book V) (n : ℕ) (s z : Seat V G) → IsOf b n z → seen z ≡ seen s → SeatFits b s → IsSeat b n z
+  seat_alike b n s z i e f = (
+    record {
+      seat = own_seat b n z i;
+      legal = subst (λ (v : List Event). is_legal (first_of b).theme v ≡ true) (sym e) f.legal;
+    },
+    i.1,
+  )
+
+module _ {G : Ghosts (Session Plan) Event} where
   pub seen_later : (b : Book Plan) (s z : Seat Plan G) (h added : List Event) → IsTurn b s z h added → IsPrefix (seen s) (seen z)
   seen_later b s z h added t = (t.later.0 ++ added, t.seen_is ∙ (ap (λ (v : List Event). v ++ added) t.later.1 ∙ append_assoc (seen s) t.later.0 added))
 
@@ -57,22 +74,6 @@ module _ {G : Ghosts (Session Plan) Event} where
 
   pub stays_after : (b : Book Plan) (s z : Seat Plan G) (jobs : List Job) (h added : List Event) → IsTurn b s z h added → DeskFits b s jobs → Stays b s z jobs
   stays_after b s z jobs h added t f = (desk_after b s z jobs h added t f, t.seat.1)
-
-  pub still_after : (b : Book Plan) (s z : Seat Plan G) (h added : List Event) → IsTurn b s z h added → IsStill b s z
-  still_after b s z h added t = (seat_after b s z h added t, t.seat.1)
-
-  pub still_then : (b : Book Plan) (s y z : Seat Plan G) → IsStill b s y → IsStill b y z → IsStill b s z
-  still_then b s y z p q = (q.0, q.1 ∙ p.1)
-
-  -- a seat that has seen what another one has, with a number of its own
-  pub seat_alike : (b : Book Plan) (n : ℕ) (s z : Seat Plan G) → IsOf b n z → seen z ≡ seen s → SeatFits b s → IsSeat b n z
-  seat_alike b n s z i e f = (
-    record {
-      seat = own_seat b n z i;
-      legal = subst (λ (v : List Event). is_legal (first_of b).theme v ≡ true) (sym e) f.legal;
-    },
-    i.1,
-  )
 
   pub desk_read : (b : Book Plan) (s z : Seat Plan G) (jobs : List Job) → IsOf b (number_of s) z → seen z ≡ seen s → DeskFits b s jobs → DeskFits b z jobs
   desk_read b s z jobs i e f = record {
@@ -90,7 +91,7 @@ job_here p s t x e h k =
     (subst (λ (v : Game). t < length v.points) g h, k ∙ ap (λ (v : Game). slice_index_or v.points t []) g)
 
 -- the first seat of a book round a session without events
-pub first_seat : {G : Ghosts (Session Plan) Event} (b : Book Plan) (s : Seat Plan G) (p : Past) → first_of b ≡ p → p.events ≡ [] → is_legal p.theme p.events ≡ true → IsOf b 65535 s → seen s ≡ [] → IsSeat b 65535 s
+pub first_seat : {V : Type 0} {G : Ghosts (Session V) Event} (b : Book V) (s : Seat V G) (p : Past) → first_of b ≡ p → p.events ≡ [] → is_legal p.theme p.events ≡ true → IsOf b 65535 s → seen s ≡ [] → IsSeat b 65535 s
 first_seat b s p e n l i v =
     let h : seen s ≡ p.events = v ∙ sym n in (
       record {
@@ -115,7 +116,7 @@ legal_longer th xs ys p q = at (ltb (length xs) (length ys))
     at false = p
 
 -- a seat that has taken another one in
-pub seat_joined : {G : Ghosts (Session Plan) Event} (b : Book Plan) (n : ℕ) (s o z : Seat Plan G) → IsOf b (number_of s) z → seen z ≡ longer (seen s) (seen o) → IsSeat b n s → SeatFits b o → IsSeat b n z
+pub seat_joined : {V : Type 0} {G : Ghosts (Session V) Event} (b : Book V) (n : ℕ) (s o z : Seat V G) → IsOf b (number_of s) z → seen z ≡ longer (seen s) (seen o) → IsSeat b n s → SeatFits b o → IsSeat b n z
 seat_joined b n s o z i e f g = (
   record {
     seat = own_seat b (number_of s) z i;

@@ -28,38 +28,40 @@ IsCaller n caller = (caller ≡ n) ⊎ (caller ≡ 200 + n)
 abbrev pub IsBuild : Past → ℕ → Built Plan → Type 0
 IsBuild p t o = (t < trials p.theme p.events) × BuiltFits made_from p t o
 
-module _ {G : Ghosts (Session Plan) Event} where
+module _ {V : Type 0} {G : Ghosts (Session V) Event} where
   -- a seat of the book, out of its turn, that has seen a legal history
-  pub record SeatFits (b : Book Plan) (s : Seat Plan G) : Type 0 where
+  pub record SeatFits (b : Book V) (s : Seat V G) : Type 0 where
     pub seat : IsOf b (number_of s) s
     pub legal : is_legal (first_of b).theme (seen s) ≡ true
 
-  -- such a seat, and jobs of what it has seen
+  -- a client's or builder's seat, out of its turn
+  abbrev pub IsClient : Book V → Seat V G → Type 0
+  IsClient b s = IsOf b (number_of s) s × (number_of s < 200)
+
+  -- a turn is left, for a client or builder
+  abbrev pub MayCall : Seat V G → Type 0
+  MayCall s = (0 < left_of s) × (number_of s < 200)
+
+module _ {V : Type 0} {G : Ghosts (Session V) Event} where
+  -- such a seat with this number
+  abbrev pub IsSeat : Book V → ℕ → Seat V G → Type 0
+  IsSeat b n s = SeatFits b s × (number_of s ≡ n)
+
+  -- the seat that a book was started with
+  abbrev pub IsFirst : Book V → Seat V G → Type 0
+  IsFirst b s = SeatFits b s × (number_of s ≡ 65535)
+
+  -- z is s after calls that leave its number
+  abbrev pub IsStill : Book V → Seat V G → Seat V G → Type 0
+  IsStill b s z = SeatFits b z × (number_of z ≡ number_of s)
+
+module _ {G : Ghosts (Session Plan) Event} where
+  -- a seat of the book, and jobs of what it has seen
   pub record DeskFits (b : Book Plan) (s : Seat Plan G) (list : List Job) : Type 0 where
     pub seat : SeatFits b s
     pub jobs : All (IsJob (first_of b).theme (seen s)) list
 
 module _ {G : Ghosts (Session Plan) Event} where
-  -- such a seat with this number
-  abbrev pub IsSeat : Book Plan → ℕ → Seat Plan G → Type 0
-  IsSeat b n s = SeatFits b s × (number_of s ≡ n)
-
-  -- the seat that a book was started with
-  abbrev pub IsFirst : Book Plan → Seat Plan G → Type 0
-  IsFirst b s = IsSeat b 65535 s
-
-  -- a client's or builder's seat, out of its turn
-  abbrev pub IsClient : Book Plan → Seat Plan G → Type 0
-  IsClient b s = IsOf b (number_of s) s × (number_of s < 200)
-
-  -- z is s after calls that leave its number
-  abbrev pub IsStill : Book Plan → Seat Plan G → Seat Plan G → Type 0
-  IsStill b s z = IsSeat b (number_of s) z
-
-  -- a turn is left, for a client or builder
-  abbrev pub MayCall : Seat Plan G → Type 0
-  MayCall s = (0 < left_of s) × (number_of s < 200)
-
   -- z is the desk's seat s after its calls, and these are its jobs
   abbrev pub Stays : Book Plan → Seat Plan G → Seat Plan G → List Job → Type 0
   Stays b s z list = DeskFits b z list × (number_of z ≡ number_of s)

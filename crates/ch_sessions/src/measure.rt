@@ -5,12 +5,13 @@ ghost use Rattle.std.specs.Prelude.{◌≤◌, ◌*◌, ◌^◌};
 ghost use Rattle.ch_book.specs.Books.{HoldsAll, left_of};
 ghost use Rattle.ch_sessions.specs.Desks.{IsClient, IsFirst};
 
-use crate::plan::{Course, Plan};
+use crate::plan::Course;
 use crate::turns::cut;
 use anyhow::Result;
 use ch_affine::List;
 use ch_book::{Book, Seat};
 use ch_grid::Param;
+use ch_session::Made;
 use std::alloc::{AllocError, Global};
 use std::rt::Clock;
 use std::sync::Wait;
@@ -32,7 +33,7 @@ const CLIENT_TURNS: u64 = 1 << 32;
 /// The turns that are taken of a book.
 const TURNS: u64 = 1 << 40;
 
-fn leave_often<R: Wait>(rt: &R, book: &Book<Plan>, mut seat: Seat<Plan>, count: u32)
+fn leave_often<V: Made + Drop, R: Wait>(rt: &R, book: &Book<V>, mut seat: Seat<V>, count: u32)
     requires { IsClient book.now seat }
 {
     let client = seat.number();
@@ -44,7 +45,7 @@ fn leave_often<R: Wait>(rt: &R, book: &Book<Plan>, mut seat: Seat<Plan>, count: 
     }
 }
 
-fn read_often(book: &Book<Plan>, mut seat: Seat<Plan>, count: u32)
+fn read_often<V: Made + Drop>(book: &Book<V>, mut seat: Seat<V>, count: u32)
     requires { IsClient book.now seat }
 {
     for _call in 0..count {
@@ -52,7 +53,7 @@ fn read_often(book: &Book<Plan>, mut seat: Seat<Plan>, count: u32)
     }
 }
 
-fn work_often<R: Wait>(rt: &R, book: &Book<Plan>, seat: Seat<Plan>, work: Work)
+fn work_often<V: Made + Drop, R: Wait>(rt: &R, book: &Book<V>, seat: Seat<V>, work: Work)
     requires { IsClient book.now seat }
 {
     match work {
@@ -61,11 +62,11 @@ fn work_often<R: Wait>(rt: &R, book: &Book<Plan>, seat: Seat<Plan>, work: Work)
     }
 }
 
-fn on_one_thread<R: Wait>(
+fn on_one_thread<V: Made + Drop, R: Wait>(
     rt: &R,
     alloc: Global,
-    book: &Book<Plan>,
-    mut rest: Seat<Plan>,
+    book: &Book<V>,
+    mut rest: Seat<V>,
     work: Work,
 )
     requires rest { IsFirst book.now rest × HoldsAll rest }
@@ -75,11 +76,11 @@ fn on_one_thread<R: Wait>(
     work_often(rt, book, seat, work);
 }
 
-fn on_two_threads<R: Threads + Wait + Sync>(
+fn on_two_threads<V: Made + Drop + Send + Sync, R: Threads + Wait + Sync>(
     rt: &R,
-    book: &Book<Plan>,
-    one: Seat<Plan>,
-    other: Seat<Plan>,
+    book: &Book<V>,
+    one: Seat<V>,
+    other: Seat<V>,
     work: Work,
 )
     requires one { IsClient book.now one }
@@ -96,11 +97,11 @@ fn on_two_threads<R: Threads + Wait + Sync>(
     );
 }
 
-fn on_four_threads<R: Threads + Wait + Sync>(
+fn on_four_threads<V: Made + Drop + Send + Sync, R: Threads + Wait + Sync>(
     rt: &R,
     alloc: Global,
-    book: &Book<Plan>,
-    mut rest: Seat<Plan>,
+    book: &Book<V>,
+    mut rest: Seat<V>,
     work: Work,
 )
     requires rest { IsFirst book.now rest × HoldsAll rest }

@@ -5,10 +5,9 @@ ghost use Rattle.std.specs.Prelude.{◌≡◌, ◌≢◌, ◌+◌, ◌<◌, ◌�
 ghost use Rattle.ch_book.specs.Books.{Holds, left_of, number_of};
 ghost use Rattle.ch_sessions.specs.Desks.{IsFirst, IsSeat, IsStill, SeatFits};
 
-use crate::plan::Plan;
 use crate::script::Alternation;
 use ch_book::{Book, Seat};
-use ch_session::Fetched;
+use ch_session::{Fetched, Made};
 use std::alloc::Global;
 use std::sync::Wait;
 use std::thread;
@@ -30,7 +29,7 @@ struct Pace {
 }
 
 /// Waits until the news are so many, for as long as it takes to read them very often.
-fn has_news(book: &Book<Plan>, seat: &mut Seat<Plan>, wanted: u64) -> bool
+fn has_news<V: Made + Drop>(book: &Book<V>, seat: &mut Seat<V>, wanted: u64) -> bool
     requires { SeatFits book.now seat.old }
     ensures { IsStill book.now seat.old seat.new }
 {
@@ -44,11 +43,11 @@ fn has_news(book: &Book<Plan>, seat: &mut Seat<Plan>, wanted: u64) -> bool
 }
 
 /// Fetches, and reports where it got a trial.
-fn measure<R: Wait>(
+fn measure<V: Made + Drop, R: Wait>(
     rt: &R,
     alloc: Global,
-    book: &Book<Plan>,
-    seat: &mut Seat<Plan>,
+    book: &Book<V>,
+    seat: &mut Seat<V>,
     call: u32,
     cost: u64,
 ) -> bool
@@ -67,13 +66,13 @@ fn measure<R: Wait>(
 }
 
 /// One client's part.
-fn measure_by_turns<R: Wait>(
+fn measure_by_turns<V: Made + Drop, R: Wait>(
     rt: &R,
     alloc: Global,
-    book: &Book<Plan>,
-    mut seat: Seat<Plan>,
+    book: &Book<V>,
+    mut seat: Seat<V>,
     pace: Pace,
-) -> Seat<Plan>
+) -> Seat<V>
     requires { SeatFits book.now seat }
     ensures { IsStill book.now seat result }
 {
@@ -90,13 +89,13 @@ fn measure_by_turns<R: Wait>(
 }
 
 /// A seat with this number, which the first seat holds, and with so many of its turns.
-pub(crate) fn cut(
+pub(crate) fn cut<V: Made + Drop>(
     alloc: Global,
-    book: &Book<Plan>,
-    rest: &mut Seat<Plan>,
+    book: &Book<V>,
+    rest: &mut Seat<V>,
     number: u32,
     turns: u64,
-) -> Seat<Plan>
+) -> Seat<V>
     requires rest { IsFirst book.now rest.old }
     requires number { (number < 200) × Holds rest.old number }
     requires turns { turns ≤ left_of rest.old }
@@ -112,7 +111,7 @@ pub(crate) fn cut(
 }
 
 /// The seat is no longer needed.
-pub(crate) fn take_in(book: &Book<Plan>, rest: &mut Seat<Plan>, seat: Seat<Plan>)
+pub(crate) fn take_in<V: Made + Drop>(book: &Book<V>, rest: &mut Seat<V>, seat: Seat<V>)
     requires rest { IsFirst book.now rest.old }
     requires seat { SeatFits book.now seat }
     ensures rest { IsFirst book.now rest.new }
@@ -125,7 +124,7 @@ pub(crate) fn take_in(book: &Book<Plan>, rest: &mut Seat<Plan>, seat: Seat<Plan>
 }
 
 /// The news, read through the first seat.
-fn first_news(book: &Book<Plan>, rest: &mut Seat<Plan>) -> u64
+fn first_news<V: Made + Drop>(book: &Book<V>, rest: &mut Seat<V>) -> u64
     requires { IsFirst book.now rest.old }
     ensures rest { IsFirst book.now rest.new }
     ensures held { (n : ℕ) → Holds rest.old n → Holds rest.new n }
@@ -134,11 +133,11 @@ fn first_news(book: &Book<Plan>, rest: &mut Seat<Plan>) -> u64
 }
 
 /// Starts the two clients, and takes their seats in again. Says by how much the news have risen.
-pub(crate) fn alternate<R: Threads + Wait + Sync>(
+pub(crate) fn alternate<V: Made + Drop + Send + Sync, R: Threads + Wait + Sync>(
     rt: &R,
     alloc: Global,
-    book: &Book<Plan>,
-    rest: &mut Seat<Plan>,
+    book: &Book<V>,
+    rest: &mut Seat<V>,
     turns: Alternation,
 ) -> u64
     requires rest { IsFirst book.now rest.old }
@@ -164,11 +163,11 @@ pub(crate) fn alternate<R: Threads + Wait + Sync>(
     };
     let (first, second) = join(
         rt,
-        move || -> Seat<Plan>
+        move || -> Seat<V>
             requires { SeatFits book.now first }
             ensures { IsStill book.entry.now first result }
         { measure_by_turns(rt, alloc, book, first, early) },
-        move || -> Seat<Plan>
+        move || -> Seat<V>
             requires { SeatFits book.now second }
             ensures { IsStill book.entry.now second result }
         { measure_by_turns(rt, alloc, book, second, late) },

@@ -6,9 +6,9 @@ use Rattle.ch_sessions.proofs.Knowing.{seat_alike}
 use Rattle.ch_sessions.proofs.turns.first_news.Goals as goal
 
 pub returns-clause-rest : goal.returns-clause-rest
-returns-clause-rest c =
+returns-clause-rest g c =
     let k = seat_alike c.args.book.now (number_of c.args.rest.now) c.args.rest.now c.news.new.seat c.news.ensures.seat c.news.ensures.kept.1 c.requires.0 in
     (k.0, k.1 ∙ c.requires.1)
 
 pub returns-clause-held : goal.returns-clause-held
-returns-clause-held c = λ n h. subst (λ (v : List (ℕ × List Event)). has_number n v ≡ true) (sym c.news.ensures.kept.2) h
+returns-clause-held g c = λ n h. subst (λ (v : List (ℕ × List Event)). has_number n v ≡ true) (sym c.news.ensures.kept.2) h

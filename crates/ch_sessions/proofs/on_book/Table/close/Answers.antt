@@ -15,4 +15,4 @@ loop-desk-preserved c =
     last_less b c.loop-desk.rest c.take_in.new.rest r c.in-Some.desk q c.take_in.ensures.rest c.take_in.ensures.ours c.take_in.ensures.theirs (All-pop (λ (d : Desk). DeskFits b d.seat d.jobs.items) c.loop-desk.desks.items r c.pop.result c.pop.ensures.items c.loop-desk.invariant.desks).0
 
 pub close-requires-clause-numbers : goal.close-requires-clause-numbers
-close-requires-clause-numbers c = λ n small. c.loop-desk.invariant.held n small (none_out n c.loop-desk.desks.items (omega (arith, c.in-None.ensures.cases.0)))
+close-requires-clause-numbers c = λ n small. c.loop-desk.invariant.held n small (none_out n c.loop-desk.desks.items (omega (arith, c.in_default.ensures.cases.0)))
