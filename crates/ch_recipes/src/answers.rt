@@ -10,7 +10,7 @@ ghost use Rattle.ch_variant.specs.Commands.{reorders};
 
 use crate::grids::{grid_around, is_in, middle};
 use crate::recipes::are_small;
-use crate::texts::{legal_text, put_values, refusal_text};
+use crate::texts::{legal_text, refusal_text, used_text};
 use ch_affine::Text;
 use ch_code::code_text;
 use ch_grid::Grid;
@@ -83,6 +83,46 @@ fn tells(variant: &Variant, point: &[u32]) -> bool {
     variant.subject() == SUBJECT && variant.point() == point
 }
 
+/// A text, and behind it the code of a variant.
+fn with_code(alloc: Global, text: &Text, variant: &Variant) -> Result<Text, AllocError> {
+    let mut out = text.copied(alloc)?;
+    out.append(b"\n")?;
+    out.append(code_text(alloc, variant.unit())?.as_bytes())?;
+    Ok(out)
+}
+
+/// What a variant says, where its recipe is judged so: that, with the code behind it where that is
+/// wanted.
+fn kept(
+    alloc: Global,
+    wanted: &Wanted<'_>,
+    variant: &Variant,
+    point: &[u32],
+    judgement: &Text,
+) -> Result<Text, AllocError> {
+    if !tells(variant, point) {
+        return sentence(alloc, b"the variant is another one");
+    }
+    if wanted.shows_code {
+        return with_code(alloc, judgement, variant);
+    }
+    judgement.copied(alloc)
+}
+
+/// What is said of a refused build, where the recipe is judged so.
+fn unbuilt(
+    alloc: Global,
+    nest: &Nest,
+    error: ApplyError,
+    judgement: &Text,
+) -> Result<Text, ApplyError> {
+    let text = refused(alloc, nest, error)?;
+    if text.is(judgement.as_bytes()) {
+        return Ok(text);
+    }
+    Ok(sentence(alloc, b"the build is refused otherwise")?)
+}
+
 /// What a build at this point says, where the recipe is judged so at the values that it uses: that
 /// judgement, with the code behind it where that is wanted.
 fn built(
@@ -90,33 +130,59 @@ fn built(
     wanted: &Wanted<'_>,
     grid: &Grid,
     point: &[u32],
-    judgement: Text,
+    judgement: &Text,
 ) -> Result<Text, ApplyError>
     requires sound { IsTrue (is_sound wanted.now.nest.now) }
     requires params { length grid.now.params ≡ length wanted.now.recipe.now.params }
     requires point { IsTrue (is_point (sizes grid.now.params) point.now) }
     requires reorders { IsTrue (list_all reorders wanted.now.recipe.now.commands) }
 {
-    let variant = match build(alloc, SUBJECT, wanted.nest, wanted.recipe, grid, point) {
-        Ok(variant) => variant,
-        Err(error) => {
-            let text = refused(alloc, wanted.nest, error)?;
-            if !text.is(judgement.as_bytes()) {
-                return Ok(sentence(alloc, b"the build is refused otherwise")?);
-            }
-            return Ok(judgement);
-        }
-    };
-    if !tells(&variant, point) {
-        return Ok(sentence(alloc, b"the variant is another one")?);
+    match build(alloc, SUBJECT, wanted.nest, wanted.recipe, grid, point) {
+        Ok(variant) => Ok(kept(alloc, wanted, &variant, point, judgement)?),
+        Err(error) => unbuilt(alloc, wanted.nest, error, judgement),
     }
-    if !wanted.shows_code {
-        return Ok(judgement);
-    }
-    let mut out = judgement;
-    out.append(b"\n")?;
-    out.append(code_text(alloc, variant.unit())?.as_bytes())?;
-    Ok(out)
+}
+
+/// How the recipe is judged at these values, which a build at the point uses, and what it says.
+fn told_for(
+    alloc: Global,
+    wanted: &Wanted<'_>,
+    grid: &Grid,
+    point: &[u32],
+    values: &[i64],
+) -> Result<Text, ApplyError>
+    requires sound { IsTrue (is_sound wanted.now.nest.now) }
+    requires params { length grid.now.params ≡ length wanted.now.recipe.now.params }
+    requires values { length values.now ≡ length wanted.now.recipe.now.params }
+    requires small { All (IsAtMost (2 ^ 20)) values.now }
+    requires point { IsTrue (is_point (sizes grid.now.params) point.now) }
+    requires reorders { IsTrue (list_all reorders wanted.now.recipe.now.commands) }
+{
+    let judgement = judged(alloc, wanted, values)?;
+    built(alloc, wanted, grid, point, &judgement)
+}
+
+/// What is said where a build uses another point: the judgement at the point's own values, the
+/// values that are used, and what is said for these.
+fn told_elsewhere(
+    alloc: Global,
+    wanted: &Wanted<'_>,
+    grid: &Grid,
+    point: &[u32],
+    used: &[u32],
+) -> Result<Text, ApplyError>
+    requires sound { IsTrue (is_sound wanted.now.nest.now) }
+    requires params { length grid.now.params ≡ length wanted.now.recipe.now.params }
+    requires values { length wanted.now.values.now ≡ length wanted.now.recipe.now.params }
+    requires small { All (IsAtMost (2 ^ 20)) wanted.now.values.now }
+    requires point { IsTrue (is_point (sizes grid.now.params) point.now) }
+    requires used { IsTrue (is_point (sizes grid.now.params) used.now) }
+    requires reorders { IsTrue (list_all reorders wanted.now.recipe.now.commands) }
+{
+    let here = judged(alloc, wanted, wanted.values)?;
+    let values = values_at(alloc, grid, used)?;
+    let there = told_for(alloc, wanted, grid, point, values.as_slice())?;
+    Ok(used_text(alloc, &here, values.as_slice(), &there)?)
 }
 
 /// What is said of a recipe at a point of a grid: the judgement at the point's values, and also the
@@ -134,20 +200,12 @@ fn told_at(
     requires point { IsTrue (is_point (sizes grid.now.params) point.now) }
     requires reorders { IsTrue (list_all reorders wanted.now.recipe.now.commands) }
 {
-    let judgement = judged(alloc, wanted, wanted.values)?;
     let used = used_point(alloc, wanted.recipe, grid, point)?;
     if used.as_slice() == point {
-        return built(alloc, wanted, grid, point, judgement);
+        told_for(alloc, wanted, grid, point, wanted.values)
+    } else {
+        told_elsewhere(alloc, wanted, grid, point, used.as_slice())
     }
-    let values = values_at(alloc, grid, used.as_slice())?;
-    let elsewhere = judged(alloc, wanted, values.as_slice())?;
-    let elsewhere = built(alloc, wanted, grid, point, elsewhere)?;
-    let mut out = judgement;
-    out.append(b" used ")?;
-    put_values(&mut out, values.as_slice())?;
-    out.append(b": ")?;
-    out.append(elsewhere.as_bytes())?;
-    Ok(out)
 }
 
 /// What is said of a recipe that only reorders, at fitting values.

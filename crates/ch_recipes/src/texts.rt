@@ -78,7 +78,7 @@ pub(crate) fn legal_text(alloc: Global, judgement: Judgement) -> Result<Text, Al
 }
 
 /// Numbers with commas between them.
-pub(crate) fn put_values(out: &mut Text, values: &[i64]) -> Result<(), AllocError> {
+fn put_values(out: &mut Text, values: &[i64]) -> Result<(), AllocError> {
     for (k, value) in values.iter().enumerate() {
         if k > 0 {
             out.append(b",")?;
@@ -86,4 +86,19 @@ pub(crate) fn put_values(out: &mut Text, values: &[i64]) -> Result<(), AllocErro
         put_wide(out, i128::from(*value))?;
     }
     Ok(())
+}
+
+/// What is said here, and what is said for the values that are used in place of others.
+pub(crate) fn used_text(
+    alloc: Global,
+    here: &Text,
+    values: &[i64],
+    there: &Text,
+) -> Result<Text, AllocError> {
+    let mut out = here.copied(alloc)?;
+    out.append(b" used ")?;
+    put_values(&mut out, values)?;
+    out.append(b": ")?;
+    out.append(there.as_bytes())?;
+    Ok(out)
 }
