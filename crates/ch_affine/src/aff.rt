@@ -10,8 +10,8 @@ use std::marker::Model;
 
 /// An affine form: a constant plus, for each variable, a coefficient times the variable.
 ///
-/// A form has at most 4,096 coefficients, and its numbers have magnitude at most 2^60, so that no value at a point
-/// whose numbers have magnitude at most 2^54 leaves `i128`.
+/// A form has at most 4,096 coefficients, and its numbers have magnitude at most 2^60, so that no
+/// value at a point whose numbers have magnitude at most 2^54 leaves `i128`.
 #[derive(Debug, Drop)]
 pub struct Aff {
     pub coefs: List<i64>,

@@ -3,7 +3,8 @@ ghost use Rattle.std.specs.Prelude.{◌≡◌, IfOk};
 use std::alloc::{AllocError, Global};
 use std::marker::Model;
 
-/// An owned value on the heap that contracts see as the value itself, so that trees with equal parts are equal.
+/// An owned value on the heap that contracts see as the value itself, so that trees with equal
+/// parts are equal.
 #[derive(Debug, Drop)]
 pub struct Boxed<T> {
     inner: Box<T>,

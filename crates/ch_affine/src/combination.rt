@@ -25,14 +25,17 @@ impl From<AllocError> for AffError {
     }
 }
 
-/// The form `a * x + b * y`, of as many variables. `Wide` has the first number of it, the coefficients before the
-/// constant, whose magnitude is above `limit`. Memory is taken only where there is none.
+/// The form `a * x + b * y`, of as many variables. `Wide` has the first number of it, the
+/// coefficients before the constant, whose magnitude is above `limit`. Memory is taken only where
+/// there is none.
 pub fn combine(alloc: Global, a: i64, x: &Aff, b: i64, y: &Aff, limit: i64) -> Result<Aff, AffError>
     requires same { length x.now.coefs ≡ length y.now.coefs }
     requires limit_low { pos 0 ≤ℤ limit }
     requires limit_high { limit ≤ℤ pos (2 ^ 60) }
-    ensures wide { IfSome (first_wide limit (combined a x.now b y.now)) (λ value. result ≡ Err (Wide value)) }
-    ensures memory { IfNone (first_wide limit (combined a x.now b y.now)) (IfErr result (λ e. e ≡ Memory)) }
+    ensures wide { IfSome (first_wide limit (combined a x.now b y.now)) (λ value.
+        result ≡ Err (Wide value)) }
+    ensures memory { IfNone (first_wide limit (combined a x.now b y.now)) (IfErr result (λ e.
+        e ≡ Memory)) }
     ensures value { IfOk result (λ form. form ≡ combined a x.now b y.now) }
 {
     let xs = x.coefs.as_slice();

@@ -73,7 +73,8 @@ pub fn least_in(boxes: &[Range], form: &Aff) -> i128
     least_total(form.constant, form.coefs.as_slice(), boxes)
 }
 
-/// The greatest value of a form at the integer points of a box, which has a range for each variable.
+/// The greatest value of a form at the integer points of a box, which has a range for each
+/// variable.
 pub fn greatest_in(boxes: &[Range], form: &Aff) -> i128
     requires same { length form.now.coefs ≡ length boxes.now }
     requires boxes { All IsBox boxes.now }

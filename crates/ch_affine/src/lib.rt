@@ -1,5 +1,6 @@
-//! Exact integer forms: affine forms and their values, systems of such forms over a box of integers, and the
-//! containers that the rest of the program's data is made of, each of which contracts see as a plain value.
+//! Exact integer forms: affine forms and their values, systems of such forms over a box of
+//! integers, and the containers that the rest of the program's data is made of, each of which
+//! contracts see as a plain value.
 #![tactic(auto)]
 
 mod aff;

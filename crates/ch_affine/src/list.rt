@@ -71,7 +71,8 @@ impl<T> List<T> {
         self.items.as_slice()
     }
 
-    /// The elements to be written in place: the list keeps its length, and ends as what was last written.
+    /// The elements to be written in place: the list keeps its length, and ends as what was last
+    /// written.
     pub fn as_mut_slice(&mut self) -> &mut [T]
         ensures* writes_back { sem 𝓛 (lends_slice T.row self.entry result) }
         ensures value { result.now ≡ self.old }
@@ -81,7 +82,8 @@ impl<T> List<T> {
 
     /// Takes the last element away. It frees no memory.
     pub fn pop(&mut self) -> Option<T>
-        ensures { MatchOption result ((self.old ≡ []) × (self.new ≡ [])) (λ last. self.old ≡ self.new ++ last ∷ []) }
+        ensures { MatchOption result ((self.old ≡ []) × (self.new ≡ [])) (λ last.
+            self.old ≡ self.new ++ last ∷ []) }
     {
         self.items.pop()
     }

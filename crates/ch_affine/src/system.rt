@@ -17,8 +17,8 @@ pub struct Range {
 
 /// Affine inequalities over a box of integer points: a row holds where its value is at least 0.
 ///
-/// There are at most 4,096 variables, and one range for each; a row has one coefficient for each; and a range has its
-/// low at most its high, both of magnitude at most 2^54.
+/// There are at most 4,096 variables, and one range for each; a row has one coefficient for each;
+/// and a range has its low at most its high, both of magnitude at most 2^54.
 #[derive(Debug, Drop)]
 pub struct System {
     pub vars: u32,
@@ -52,7 +52,8 @@ impl System {
         Some(System { vars, rows, boxes })
     }
 
-    /// Whether the point, which has one number for each variable, is in the box and all rows hold at it.
+    /// Whether the point, which has one number for each variable, is in the box and all rows hold
+    /// at it.
     pub fn holds(&self, point: &[i64]) -> bool
         requires same { length point.now ≡ self.now.vars }
         ensures { result ≡ holds self.now point.now }

@@ -52,7 +52,8 @@ impl<V: Made + Drop> Book<V> {
         job
     }
 
-    /// Leases a trial to the client or gives it the current version, by one turn. It takes the memory that `report` or `leave` will need.
+    /// Leases a trial to the client or gives it the current version, by one turn. It takes the
+    /// memory that `report` or `leave` will need.
     pub fn fetch<R: Wait>(
         &self,
         rt: &R,
@@ -76,7 +77,8 @@ impl<V: Made + Drop> Book<V> {
         reply
     }
 
-    /// Takes the cost that the client measured of the trial that it holds, by one turn without memory.
+    /// Takes the cost that the client measured of the trial that it holds, by one turn without
+    /// memory.
     pub fn report<R: Wait>(
         &self,
         rt: &R,
@@ -157,8 +159,8 @@ impl<V: Made + Drop> Book<V> {
         reply
     }
 
-    /// The news of a history that begins with what the seat has seen, by one load: without a turn, without waiting and
-    /// without memory.
+    /// The news of a history that begins with what the seat has seen, by one load: without a turn,
+    /// without waiting and without memory.
     pub fn news(&self, seat: &mut Seat<V>) -> u64
         requires seat { IsOf self.now (number_of seat.old) seat.old }
         ensures seat { IsOf self.now (number_of seat.old) seat.new }
@@ -236,8 +238,8 @@ impl<V: Made + Drop> Book<V> {
         session
     }
 
-    /// A book round a session without events, of which so many turns may be taken in all, and its first seat, which holds
-    /// all numbers below 65,536.
+    /// A book round a session without events, of which so many turns may be taken in all, and its
+    /// first seat, which holds all numbers below 65,536.
     pub fn start(
         alloc: Global,
         session: Session<V>,

@@ -1,5 +1,6 @@
-//! That books and seats cross threads wherever their values may: another thread shares the book, and a seat goes there and comes
-//! back. The check proves it here once, for all values, and not first where a crate above starts a thread.
+//! That books and seats cross threads wherever their values may: another thread shares the book,
+//! and a seat goes there and comes back. The check proves it here once, for all values, and not
+//! first where a crate above starts a thread.
 ghost use Rattle.std.specs.Prelude.{◌≡◌};
 ghost use Rattle.ch_book.specs.Books.{HoldsAll, IsOf, number_of, owns};
 
@@ -17,7 +18,8 @@ fn read_news<V: Made + Drop>(book: &Book<V>, mut seat: Seat<V>) -> Seat<V>
     seat
 }
 
-/// Another thread reads the news through a seat of its own, and the book is closed once that seat is back.
+/// Another thread reads the news through a seat of its own, and the book is closed once that seat
+/// is back.
 pub(crate) fn cross<V: Made + Drop + Send + Sync, R: Threads + Sync>(
     rt: &R,
     alloc: Global,

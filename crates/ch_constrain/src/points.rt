@@ -1,4 +1,5 @@
-//! The points of a grid: their values, whether rows hold there, how far apart they are, and which one is next.
+//! The points of a grid: their values, whether rows hold there, how far apart they are, and which
+//! one is next.
 
 ghost use Rattle.std.specs.Prelude.{◌≡◌, ◌<◌, ◌≤◌, ◌+◌, ◌^◌, length, slice_get, set, IfOk, IfSome, IsTrue};
 ghost use Rattle.std.specs.List.{All, list_all};
@@ -80,7 +81,8 @@ fn set_index(grid: &Grid, k: usize, index: u32, point: &mut [u32], numbers: &mut
     numbers[k] = grid.value_of(k as u32, index);
 }
 
-/// Goes on to the next point, the last index counting fastest, and to its values. The last point is followed by the first.
+/// Goes on to the next point, the last index counting fastest, and to its values. The last point is
+/// followed by the first.
 pub(crate) fn advance(grid: &Grid, point: &mut [u32], numbers: &mut [i64])
     requires point { IsTrue (is_point (sizes grid.now.params) point.old) }
     requires numbers { numbers.old ≡ values grid.now.params point.old }

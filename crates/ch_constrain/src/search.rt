@@ -44,7 +44,8 @@ fn better(best: Option<Found>, found: Found, rows: &[Aff], values: &[i64]) -> Op
     }
 }
 
-/// The first one of the nearest admissible points. `other` and `numbers` are those of the first point when the scan begins.
+/// The first one of the nearest admissible points. `other` and `numbers` are those of the first
+/// point when the scan begins.
 fn scan(
     grid: &Grid,
     rows: &[Aff],
@@ -88,7 +89,8 @@ fn nearest_found(
     Ok(scan(grid, rows, point, indices, numbers))
 }
 
-/// Whether a point of the grid is admissible: whether each row, over the parameters' values, is at least 0 there.
+/// Whether a point of the grid is admissible: whether each row, over the parameters' values, is at
+/// least 0 there.
 pub fn is_admissible(
     alloc: Global,
     grid: &Grid,
@@ -105,10 +107,11 @@ pub fn is_admissible(
 
 /// The admissible point of the grid that is nearest to a point.
 ///
-/// A point has one index for each parameter. It is admissible where each row, over the parameters' values, is at least 0.
-/// The nearest one has the least sum of the magnitudes of the index differences, and at a tie it is the lexicographically
-/// least; so an admissible point is its own nearest one. None exactly where no point of the grid is admissible; `Err` where
-/// memory runs out. An admissible point is answered at once, otherwise each point of the grid is looked at.
+/// A point has one index for each parameter. It is admissible where each row, over the parameters'
+/// values, is at least 0. The nearest one has the least sum of the magnitudes of the index
+/// differences, and at a tie it is the lexicographically least; so an admissible point is its own
+/// nearest one. None exactly where no point of the grid is admissible; `Err` where memory runs out.
+/// An admissible point is answered at once, otherwise each point of the grid is looked at.
 pub fn nearest(
     alloc: Global,
     grid: &Grid,

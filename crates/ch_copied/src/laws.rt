@@ -13,8 +13,8 @@ ghost use Rattle.ch_timed.specs.Flat.{StaysInside, done_flat};
 ghost use Rattle.ch_timed.specs.Members.{In};
 ghost use Rattle.ch_timed.specs.Timed.{is_well_formed};
 
-/// A list whose loop works on a buffer is well formed, and it does what the list did before, to every store, on every cell
-/// but those of the buffer. The buffer may hold anything before.
+/// A list whose loop works on a buffer is well formed, and it does what the list did before, to
+/// every store, on every cell but those of the buffer. The buffer may hold anything before.
 pub fn copy_keeps_meaning()
     ensures well_formed { (list : List Element) (s level array buffer dimensions : ℕ)
         → IsCopyable list array buffer dimensions → HasLoop list s level
@@ -25,8 +25,9 @@ pub fn copy_keeps_meaning()
         → done list store c ≡ done (datacopied list s level array buffer) store c }
 {}
 
-/// The same on arrays, the buffer standing behind the arrays and the buffers so far: no access leaves its array or buffer,
-/// so the list keeps the arrays, and of flat arrays all cells hold what they held but those of the new buffer.
+/// The same on arrays, the buffer standing behind the arrays and the buffers so far: no access
+/// leaves its array or buffer, so the list keeps the arrays, and of flat arrays all cells hold what
+/// they held but those of the new buffer.
 pub fn copy_keeps_arrays()
     ensures inside { (list : List Element) (s level array buffer dimensions : ℕ)
         → IsCopyable list array buffer dimensions → HasLoop list s level
@@ -48,8 +49,8 @@ pub fn copy_keeps_arrays()
         (datacopied list s level array buffer) (cells ++ more)) }
 {}
 
-/// The extents of a buffer are enough for the cells that are used with one prefix, and not greater than those need. There
-/// is one such number alone.
+/// The extents of a buffer are enough for the cells that are used with one prefix, and not greater
+/// than those need. There is one such number alone.
 pub fn extents_are_exact()
     ensures dimensions { (dimensions : ℕ) (us : List Use)
         → ((u : Use) → In u us → length u.cell ≡ dimensions) → (u : Use) → In u us

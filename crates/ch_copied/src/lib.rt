@@ -1,5 +1,5 @@
-//! Copying the cells of an array that a loop uses into a buffer around the loop: the list that comes of it, and that it does
-//! what the list did before.
+//! Copying the cells of an array that a loop uses into a buffer around the loop: the list that
+//! comes of it, and that it does what the list did before.
 #![tactic(auto)]
 
 mod laws;

@@ -1,5 +1,5 @@
-//! What a timed list costs on a machine: its elements, the turns of loops that begin, and the accesses that miss a cache
-//! in which each line of cells has one slot.
+//! What a timed list costs on a machine: its elements, the turns of loops that begin, and the
+//! accesses that miss a cache in which each line of cells has one slot.
 #![tactic(auto)]
 
 mod laws;

@@ -37,7 +37,8 @@ fn candidates(
     all_parts(alloc, pieces, counts, ours, level as usize, form)
 }
 
-/// The space in which the loop of the level around the piece is cut: the turns at which the form is at least 0 come first.
+/// The space in which the loop of the level around the piece is cut: the turns at which the form is
+/// at least 0 come first.
 pub(crate) fn cut(
     alloc: Global,
     space: &Space,
@@ -51,7 +52,8 @@ pub(crate) fn cut(
     requires short { pos (length form.now.coefs) ≤ℤ level }
     requires modest { IsModest form.now }
     ensures cause { Answers result (too_many (cuts space.now.list number level (holds_at form.now)) space.now.list) }
-    ensures list { IfOk result (λ new. new.list ≡ moved (cuts space.now.list number level (holds_at form.now)) space.now.list) }
+    ensures list { IfOk result (λ new. new.list
+        ≡ moved (cuts space.now.list number level (holds_at form.now)) space.now.list) }
     ensures kept { IfOk result (λ new. AreAmong space.now.list new.list) }
     ensures no_others { IfOk result (λ new. AreAmong new.list space.now.list) }
     ensures arrays { IfOk result (λ new. new.arrays ≡ space.now.arrays) }

@@ -20,7 +20,8 @@ fn multiple(alloc: Global, level: usize, factor: i64, variables: usize) -> Resul
     requires deep { level ≤ variables }
     requires few { variables ≤ 4096 }
     requires factor { IsAtMost 1 factor }
-    ensures { IfOk result (λ f. f ≡ form (zeros (level - 1) ++ factor ∷ zeros (variables - level)) (pos 0)) }
+    ensures { IfOk result (λ f.
+        f ≡ form (zeros (level - 1) ++ factor ∷ zeros (variables - level)) (pos 0)) }
 {
     let mut coefs = List::new(alloc);
     push_zeros(&mut coefs, level - 1)?;
@@ -46,7 +47,8 @@ fn least_in(alloc: Global, piece: &Piece, level: usize, factor: i64) -> Result<i
     }
 }
 
-/// The lesser of a number and the least product in the piece, if it shares the level with our places.
+/// The lesser of a number and the least product in the piece, if it shares the level with our
+/// places.
 fn lesser(
     alloc: Global,
     least: i64,
@@ -73,8 +75,9 @@ fn lesser(
     Ok(value)
 }
 
-/// The least product of the factor and a value of the level in the pieces that share the level with one of them. A factor of 1
-/// gives the first value of the loop, and -1 the negative of the last one.
+/// The least product of the factor and a value of the level in the pieces that share the level with
+/// one of them. A factor of 1 gives the first value of the loop, and -1 the negative of the last
+/// one.
 pub(crate) fn least(
     alloc: Global,
     pieces: &[Piece],

@@ -43,7 +43,8 @@ pub(crate) fn doubled(
     Ok(new)
 }
 
-/// The instances of the piece at which the row is at least 0, at these places. How many they are isn't known.
+/// The instances of the piece at which the row is at least 0, at these places. How many they are
+/// isn't known.
 fn half(alloc: Global, piece: &Piece, row: &Aff, places: List<u64>) -> Result<Candidate, AllocError>
     requires whole { IsWhole piece.now }
     requires room { HasRoom 1 piece.now }

@@ -1,4 +1,5 @@
-//! Splitting and peeling: a loop cut in two by a condition, or its first or last turns taken out of it.
+//! Splitting and peeling: a loop cut in two by a condition, or its first or last turns taken out of
+//! it.
 #![tactic(auto)]
 
 mod condition;

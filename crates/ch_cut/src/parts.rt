@@ -25,7 +25,8 @@ fn outside_places(
 ) -> Result<List<u64>, AllocError>
     requires some { 1 ≤ level }
     requires deep { level ≤ length ours.now }
-    ensures { IfOk result (λ new. map pos new ≡ cut_places level (map pos ours.now) true (map pos theirs.now)) }
+    ensures { IfOk result (λ new. map pos new
+        ≡ cut_places level (map pos ours.now) true (map pos theirs.now)) }
 {
     if beside(level, ours, theirs) {
         return doubled(alloc, theirs, level, 0);
@@ -52,7 +53,8 @@ fn replaced(
     Ok(candidates)
 }
 
-/// What the piece becomes where the loop of the level around our places is cut. Outside that loop only its places change.
+/// What the piece becomes where the loop of the level around our places is cut. Outside that loop
+/// only its places change.
 fn parts(
     alloc: Global,
     piece: &Piece,

@@ -46,7 +46,8 @@ fn peel_cause(space: &Space, number: i64, level: i64, count: i64) -> Option<Shap
     no_count(count)
 }
 
-/// The last value of the turns that come first: so many from the first value on, or all but so many.
+/// The last value of the turns that come first: so many from the first value on, or all but so
+/// many.
 fn last_of_first(
     alloc: Global,
     pieces: &[Piece],
@@ -84,7 +85,8 @@ fn first_turns(
     requires piece { no_piece space.now.list (number ∷ []) ≡ None }
     requires level { no_level space.now.list (number ∷ []) level ≡ None }
     requires count { IsAtMost 16 count }
-    ensures same { IfOk result (λ f. (xs : List ℤ) → holds_at f xs ≡ peels space.now.list number level count xs) }
+    ensures same { IfOk result (λ f. (xs : List ℤ) → holds_at f xs
+        ≡ peels space.now.list number level count xs) }
     ensures short { IfOk result (λ f. pos (length f.coefs) ≤ℤ level) }
     ensures modest { IfOk result (λ f. IsModest f) }
 {
@@ -94,14 +96,14 @@ fn first_turns(
     at_most(alloc, level as usize, last)
 }
 
-/// The space with the first turns of the loop of the level around a piece taken out of it, as many as the count says, or, where it
-/// is below 0, the last ones: they are counted over all pieces that share the loop. It is not tested whether the program means the
-/// same.
+/// The space with the first turns of the loop of the level around a piece taken out of it, as many
+/// as the count says, or, where it is below 0, the last ones: they are counted over all pieces that
+/// share the loop. It is not tested whether the program means the same.
 ///
 /// # Errors
 ///
-/// C1 where there is no piece of that number, C2 where it doesn't have that level, C4 where the count is 0 or has a magnitude above
-/// 16, and C7 where there are more than 256 pieces then.
+/// C1 where there is no piece of that number, C2 where it doesn't have that level, C4 where the
+/// count is 0 or has a magnitude above 16, and C7 where there are more than 256 pieces then.
 pub fn peel(
     alloc: Global,
     space: &Space,

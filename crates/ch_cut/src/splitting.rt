@@ -78,14 +78,15 @@ fn form_of(
     })
 }
 
-/// The space with the loop of the level around a piece cut in two: the turns at which the condition holds come first, for all
-/// pieces that share the loop, and the others behind them. It is not tested whether the program means the same.
+/// The space with the loop of the level around a piece cut in two: the turns at which the condition
+/// holds come first, for all pieces that share the loop, and the others behind them. It is not
+/// tested whether the program means the same.
 ///
 /// # Errors
 ///
-/// C1 where there is no piece of that number, C2 where it doesn't have that level or the condition has more coefficients than the
-/// level, C4 where a coefficient has a magnitude above 64 or the constant one above 2^30, and C7 where there are more than 256 pieces
-/// then.
+/// C1 where there is no piece of that number, C2 where it doesn't have that level or the condition
+/// has more coefficients than the level, C4 where a coefficient has a magnitude above 64 or the
+/// constant one above 2^30, and C7 where there are more than 256 pieces then.
 pub fn split(
     alloc: Global,
     space: &Space,

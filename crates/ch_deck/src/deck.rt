@@ -104,7 +104,8 @@ fn out_of_range(
 ) -> Result<Refused, AllocError>
     requires short { length bytes.now < 2 ^ 31 }
     requires there { access < length program.now.accesses }
-    ensures { IfOk result (λ r. (name_at : ℕ) → Some r ≡ told bytes.now program.now name_at (OutOfRange first.now access cell.now)) }
+    ensures { IfOk result (λ r. (name_at : ℕ) → Some r
+        ≡ told bytes.now program.now name_at (OutOfRange first.now access cell.now)) }
 {
     let text = instance_text(alloc, program.nest.arrays.as_slice(), first, cell)?;
     let accesses = program.accesses.as_slice();
@@ -143,7 +144,8 @@ fn unfit(
     }
 }
 
-/// The refusal of the first program that can't be run, if there is one, where the programs' names stand at these bytes.
+/// The refusal of the first program that can't be run, if there is one, where the programs' names
+/// stand at these bytes.
 pub(crate) fn first_unfit(
     alloc: Global,
     bytes: &[u8],

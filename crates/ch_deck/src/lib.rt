@@ -1,5 +1,5 @@
-//! Decks: the text that the program is given, read whole into programs, recipes, sessions and clients, or refused with its first
-//! fault.
+//! Decks: the text that the program is given, read whole into programs, recipes, sessions and
+//! clients, or refused with its first fault.
 #![tactic(auto)]
 
 mod deck;

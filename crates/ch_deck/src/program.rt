@@ -17,12 +17,15 @@ pub struct Program {
     pub fills: List<Fill>,
 }
 
-/// An accepted deck: its programs, recipes, sessions and clients. Contracts see the record of these lists.
+/// An accepted deck: its programs, recipes, sessions and clients. Contracts see the record of these
+/// lists.
 ///
-/// By its type there are at most 16 programs, 16 recipes, 8 sessions and 16 clients, and no two of one sort have one name. Each
-/// program has one fill for each of its arrays, takes at most 1,048,576 turns and instances together, and no subscript of it leaves
-/// its array. The numbers in sessions and clients are those of things that exist. A session's grid has the parameters of its
-/// recipe, and a point that meets the conditions between them. A client fills no array twice, and makes 1 to 10,000 calls.
+/// By its type there are at most 16 programs, 16 recipes, 8 sessions and 16 clients, and no two of
+/// one sort have one name. Each program has one fill for each of its arrays, takes at most
+/// 1,048,576 turns and instances together, and no subscript of it leaves its array. The numbers in
+/// sessions and clients are those of things that exist. A session's grid has the parameters of its
+/// recipe, and a point that meets the conditions between them. A client fills no array twice, and
+/// makes 1 to 10,000 calls.
 #[derive(Debug, Drop)]
 pub struct Deck {
     programs: List<Program>,

@@ -66,9 +66,11 @@ fn judged(alloc: Global, bytes: &[u8], found: Found) -> Result<Deck, DeckError>
     }
 }
 
-/// The deck that these bytes are, or its first refusal: too many bytes (D10), then a byte that begins no token (L1 to L3), then the
-/// first token that doesn't fit (D1 where a section begins, P1 to P7, A1 and D8 in a program, R1 to R4 in a recipe, D2 to D5, D7, D9,
-/// D13 and D14 in a session or a client, D3 and D6 at the name of a section), then the first program that can't be run (S1, S2).
+/// The deck that these bytes are, or its first refusal: too many bytes (D10), then a byte that
+/// begins no token (L1 to L3), then the first token that doesn't fit (D1 where a section begins, P1
+/// to P7, A1 and D8 in a program, R1 to R4 in a recipe, D2 to D5, D7, D9, D13 and D14 in a session
+/// or a client, D3 and D6 at the name of a section), then the first program that can't be run (S1,
+/// S2).
 #[tactic(auto, unfolding(crate::specs::Decks::deck_of))]
 pub fn read_deck(alloc: Global, bytes: &[u8]) -> Result<Deck, DeckError>
     ensures { GivesDeck result (deck_of bytes.now) }

@@ -8,8 +8,8 @@ use ch_workload::DeckCode;
 use std::alloc::AllocError;
 use thiserror::Error;
 
-/// The first refusal of a deck: its code, its place where there is one, and what the refusal is about where that is told (for A1 the
-/// number, for S2 the instance and the cell), else nothing.
+/// The first refusal of a deck: its code, its place where there is one, and what the refusal is
+/// about where that is told (for A1 the number, for S2 the instance and the cell), else nothing.
 #[derive(Debug, Drop)]
 pub struct Refused {
     pub code: DeckCode,

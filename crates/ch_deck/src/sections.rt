@@ -84,7 +84,8 @@ fn program(source: &Source<'_>, found: &mut Found) -> Result<(), SectionError>
     requires from { found.old.next < length source.now.tokens.now }
     requires cut { IsCut source.now.bytes.now 0 source.now.tokens.now }
     requires fine { AreFound found.old }
-    ensures exact { Gives (λ _. found.new) result (program_from source.now.bytes.now source.now.tokens.now found.old) }
+    ensures exact { Gives (λ _.
+        found.new) result (program_from source.now.bytes.now source.now.tokens.now found.old) }
     ensures fine { OnOk result (AreFound found.new) }
     ensures behind { OnOk result (found.old.next < found.new.next) }
     ensures within { OnOk result (found.new.next ≤ length source.now.tokens.now) }
@@ -109,7 +110,8 @@ fn recipe(source: &Source<'_>, found: &mut Found) -> Result<(), SectionError>
     requires from { found.old.next < length source.now.tokens.now }
     requires cut { IsCut source.now.bytes.now 0 source.now.tokens.now }
     requires fine { AreFound found.old }
-    ensures exact { Gives (λ _. found.new) result (recipe_from source.now.bytes.now source.now.tokens.now found.old) }
+    ensures exact { Gives (λ _.
+        found.new) result (recipe_from source.now.bytes.now source.now.tokens.now found.old) }
     ensures fine { OnOk result (AreFound found.new) }
     ensures behind { OnOk result (found.old.next < found.new.next) }
     ensures within { OnOk result (found.new.next ≤ length source.now.tokens.now) }
@@ -128,7 +130,8 @@ fn session(source: &Source<'_>, found: &mut Found) -> Result<(), SectionError>
     requires from { found.old.next < length source.now.tokens.now }
     requires cut { IsCut source.now.bytes.now 0 source.now.tokens.now }
     requires fine { AreFound found.old }
-    ensures exact { Gives (λ _. found.new) result (session_from source.now.bytes.now source.now.tokens.now found.old) }
+    ensures exact { Gives (λ _.
+        found.new) result (session_from source.now.bytes.now source.now.tokens.now found.old) }
     ensures fine { OnOk result (AreFound found.new) }
     ensures behind { OnOk result (found.old.next < found.new.next) }
     ensures within { OnOk result (found.new.next ≤ length source.now.tokens.now) }
@@ -159,7 +162,8 @@ fn client(source: &Source<'_>, found: &mut Found) -> Result<(), SectionError>
     requires from { found.old.next < length source.now.tokens.now }
     requires cut { IsCut source.now.bytes.now 0 source.now.tokens.now }
     requires fine { AreFound found.old }
-    ensures exact { Gives (λ _. found.new) result (client_from source.now.bytes.now source.now.tokens.now found.old) }
+    ensures exact { Gives (λ _.
+        found.new) result (client_from source.now.bytes.now source.now.tokens.now found.old) }
     ensures fine { OnOk result (AreFound found.new) }
     ensures behind { OnOk result (found.old.next < found.new.next) }
     ensures within { OnOk result (found.new.next ≤ length source.now.tokens.now) }
@@ -185,7 +189,8 @@ fn section(source: &Source<'_>, found: &mut Found) -> Result<(), SectionError>
     requires from { found.old.next < length source.now.tokens.now }
     requires cut { IsCut source.now.bytes.now 0 source.now.tokens.now }
     requires fine { AreFound found.old }
-    ensures exact { Gives (λ _. found.new) result (section_from source.now.bytes.now source.now.tokens.now found.old) }
+    ensures exact { Gives (λ _.
+        found.new) result (section_from source.now.bytes.now source.now.tokens.now found.old) }
     ensures fine { OnOk result (AreFound found.new) }
     ensures behind { OnOk result (found.old.next < found.new.next) }
     ensures within { OnOk result (found.new.next ≤ length source.now.tokens.now) }

@@ -67,7 +67,8 @@ fn has_name<T: Titled>(name: &[u8], things: &[T]) -> bool
     false
 }
 
-/// Judges the name of a section, whose first token this is, behind those of its sort, of which there may be so many.
+/// Judges the name of a section, whose first token this is, behind those of its sort, of which
+/// there may be so many.
 #[tactic(auto, unfolding(crate::specs::Sections::named_at))]
 pub(crate) fn named<T: Titled>(
     bytes: &[u8],

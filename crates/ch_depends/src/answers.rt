@@ -1,7 +1,7 @@
 use ch_timed::{Cell, Identity};
 
-/// Two statement instances that conflict, the one that was executed first before the other, and the first cell on which they
-/// conflict.
+/// Two statement instances that conflict, the one that was executed first before the other, and the
+/// first cell on which they conflict.
 #[derive(Debug, Drop)]
 pub struct Pair {
     pub first: Identity,
@@ -9,8 +9,9 @@ pub struct Pair {
     pub cell: Cell,
 }
 
-/// An element of the piece `from` and a later one of the piece `to` conflict, and their vectors first differ in the loop value of
-/// that level, counted from 1, or in a place, for which the level is 0.
+/// An element of the piece `from` and a later one of the piece `to` conflict, and their vectors
+/// first differ in the loop value of that level, counted from 1, or in a place, for which the level
+/// is 0.
 #[derive(Clone, Copy, Debug, PartialEq, Eq)]
 pub struct Level {
     pub from: u32,

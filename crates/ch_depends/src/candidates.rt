@@ -197,8 +197,8 @@ fn least_after(
     Ok(best)
 }
 
-/// Whether the partners of two sides are to be asked about: not where no elements of the sides conflict. Where each side has one
-/// partner, that is asked with the partners at once.
+/// Whether the partners of two sides are to be asked about: not where no elements of the sides
+/// conflict. Where each side has one partner, that is asked with the partners at once.
 fn may_depend(alloc: Global, from: &Side, to: &Side) -> Result<bool, AllocError>
     requires from { IsSide from.now }
     requires to { IsSide to.now }
@@ -217,7 +217,8 @@ fn least_of_sides(alloc: Global, from: &Side, to: &Side) -> Result<Option<Candid
     requires to { IsSide to.now }
     ensures { IfOk result (IsBest (Reversed from.now to.now)) }
 {
-    // Most pairs of pieces have nothing to reverse, which takes much less asking than each pair of partners does.
+    // Most pairs of pieces have nothing to reverse, which takes much less asking than each pair of
+    // partners does.
     if !may_depend(alloc, from, to)? {
         return Ok(None);
     }
@@ -278,7 +279,8 @@ fn least_from(
     Ok(best)
 }
 
-/// The least pair of elements of any two sides that are no listed pair, which some of their partners have the other way round.
+/// The least pair of elements of any two sides that are no listed pair, which some of their
+/// partners have the other way round.
 pub(crate) fn least(
     alloc: Global,
     sides: &[Side],

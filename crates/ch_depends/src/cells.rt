@@ -148,7 +148,8 @@ fn first_clash(alloc: Global, ours: &[Cell], theirs: &[Cell]) -> Result<Option<C
     Ok(None)
 }
 
-/// The first cell, in the order of the first element's accesses, on which two elements conflict. None where they don't.
+/// The first cell, in the order of the first element's accesses, on which two elements conflict.
+/// None where they don't.
 pub(crate) fn conflict(
     alloc: Global,
     first: &Element,

@@ -75,7 +75,8 @@ fn read_meets(
     Ok(false)
 }
 
-/// Whether an element of the first side and a later one of the second conflict, their vectors differing first at that level.
+/// Whether an element of the first side and a later one of the second conflict, their vectors
+/// differing first at that level.
 fn depend_at(alloc: Global, from: &Side, to: &Side, level: u32) -> Result<bool, AllocError>
     requires from { IsSide from.now }
     requires to { IsSide to.now }
@@ -189,8 +190,8 @@ fn all_levels(alloc: Global, sides: &[Side]) -> Result<List<Level>, AllocError>
     Ok(levels)
 }
 
-/// The triples of two pieces and a level such that an element of the first conflicts with a later one of the second, and their
-/// vectors first differ at that level.
+/// The triples of two pieces and a level such that an element of the first conflicts with a later
+/// one of the second, and their vectors first differ at that level.
 pub fn pairs(alloc: Global, space: &Space) -> Result<List<Level>, AllocError>
     ensures ascending { IfOk result Ascends }
     ensures exactly { IfOk result (λ levels. (t : Level) → In t levels

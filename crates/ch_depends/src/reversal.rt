@@ -35,8 +35,8 @@ fn answer(alloc: Global, candidate: Candidate) -> Result<Option<Pair>, AllocErro
     }
 }
 
-/// The least pair of conflicting elements that the new space has the other way round: that of the least first element, and then of
-/// the least second one. None exactly where there is none.
+/// The least pair of conflicting elements that the new space has the other way round: that of the
+/// least first element, and then of the least second one. None exactly where there is none.
 pub fn reversed(alloc: Global, old: &Space, new: &Space) -> Result<Option<Pair>, AllocError>
     requires kept { AreAmong old.now.list new.now.list }
     ensures { IfOk result (λ pair. pair ≡ pair_of (reversed old.now.list new.now.list)) }
@@ -44,8 +44,8 @@ pub fn reversed(alloc: Global, old: &Space, new: &Space) -> Result<Option<Pair>,
     reversed_but(alloc, old, new, &[])
 }
 
-/// The same of elements that are not of a listed pair of pieces of the old space, in either order. A number that is no piece's
-/// lists nothing.
+/// The same of elements that are not of a listed pair of pieces of the old space, in either order.
+/// A number that is no piece's lists nothing.
 pub fn reversed_but(
     alloc: Global,
     old: &Space,

@@ -17,8 +17,8 @@ use ch_space::Piece;
 use ch_timed::Label;
 use std::alloc::{AllocError, Global};
 
-/// A piece with its number in its list, the accesses that its body reads besides the one that it writes, each once, and the pieces
-/// of another list that have its elements.
+/// A piece with its number in its list, the accesses that its body reads besides the one that it
+/// writes, each once, and the pieces of another list that have its elements.
 #[derive(Drop)]
 pub(crate) struct Side<'a> {
     pub(crate) number: usize,
@@ -47,8 +47,8 @@ fn is_known(access: &Access, write: &Access, reads: &[&Access]) -> bool
     same_access(access, write) || has_access(access, reads)
 }
 
-/// The accesses that a body reads besides the one that it writes, each once: an accumulation's read of its own cell conflicts where
-/// its write does.
+/// The accesses that a body reads besides the one that it writes, each once: an accumulation's read
+/// of its own cell conflicts where its write does.
 fn other_reads<'a>(alloc: Global, body: &'a Body) -> Result<List<&'a Access>, AllocError>
     ensures { IfOk result (λ found. StandForReads body.now (map (λ a. a.now) found)) }
 {
@@ -109,7 +109,8 @@ fn with_common<'a>(
     Ok(found)
 }
 
-/// The pieces of the new list that have elements of the piece. Where one piece alone has the label, there is nothing to ask.
+/// The pieces of the new list that have elements of the piece. Where one piece alone has the label,
+/// there is nothing to ask.
 fn partners<'a>(
     alloc: Global,
     piece: &Piece,

@@ -95,7 +95,8 @@ fn body_width(space: &Space, numbers: &[i64], level: usize) -> u64
 
 /// The lesser one of the place and the least one so far, if any.
 fn lesser(least: Option<u32>, place: u32) -> u32
-    ensures { MatchOption least (result ≡ place) (λ so_far. pos result ≡ int_min (pos so_far) (pos place)) }
+    ensures { MatchOption least (result ≡ place) (λ so_far.
+        pos result ≡ int_min (pos so_far) (pos place)) }
 {
     match least {
         None => place,
@@ -129,7 +130,8 @@ fn fused_places(
     requires some { 1 ≤ level }
     requires deep { level < length places.now }
     requires width { width ≤ 2 ^ 32 }
-    ensures { IfOk result (λ new. map pos new ≡ fused_places level (pos width) (pos first) (map pos places.now)) }
+    ensures { IfOk result (λ new. map pos new
+        ≡ fused_places level (pos width) (pos first) (map pos places.now)) }
 {
     let mut fused = wide_places(alloc, places)?;
     let place = u64::from(places[level - 1]) * width + u64::from(places[level]);
@@ -188,11 +190,12 @@ fn fused_candidates(
     Ok(candidates)
 }
 
-/// The space with the loops of the named pieces at the level made one, in the place of the first of them; their bodies stand in it
-/// one after another, in the order of the loops. It is not tested whether the program means the same.
+/// The space with the loops of the named pieces at the level made one, in the place of the first of
+/// them; their bodies stand in it one after another, in the order of the loops. It is not tested
+/// whether the program means the same.
 ///
-/// C1: a number isn't a piece's. C2: a piece doesn't have the level. C3: a piece is named twice. C5: a named piece doesn't stand
-/// behind the same places as the first one.
+/// C1: a number isn't a piece's. C2: a piece doesn't have the level. C3: a piece is named twice.
+/// C5: a named piece doesn't stand behind the same places as the first one.
 pub fn fuse(alloc: Global, space: &Space, pieces: &[i64], level: i64) -> Result<Space, ShapeError>
     requires few { space.now.commands < 32 }
     ensures cause { Answers result (fuse_cause space.now.list pieces.now level) }

@@ -1,4 +1,5 @@
-//! Fusing and distributing: loops side by side made one, and one loop made several. Only the places of pieces change.
+//! Fusing and distributing: loops side by side made one, and one loop made several. Only the places
+//! of pieces change.
 #![tactic(auto)]
 
 mod distributing;

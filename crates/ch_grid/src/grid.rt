@@ -12,14 +12,15 @@ const MAX_POINTS: u64 = 65_536;
 /// Why a list of parameters makes no grid.
 #[derive(Clone, Copy, Debug, PartialEq, Eq)]
 pub enum GridError {
-    /// Parameter `at` is the first with its low end above its high end, a step below 1, or a magnitude above 2^20.
+    /// Parameter `at` is the first with its low end above its high end, a step below 1, or a
+    /// magnitude above 2^20.
     BadParam { at: u32 },
     /// Each parameter is good, and there are more than 65,536 points.
     TooManyPoints,
 }
 
-/// At most six parameters with at most 65,536 points. A point has one index for each parameter; without parameters the
-/// empty point is the only one.
+/// At most six parameters with at most 65,536 points. A point has one index for each parameter;
+/// without parameters the empty point is the only one.
 #[derive(Debug, Drop)]
 pub struct Grid {
     pub params: List<Param>,

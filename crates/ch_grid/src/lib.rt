@@ -1,5 +1,5 @@
-//! Grids of integer parameters: the values of each parameter, the points of the grid as lists of indices, and the flat
-//! index of a point in row-major order.
+//! Grids of integer parameters: the values of each parameter, the points of the grid as lists of
+//! indices, and the flat index of a point in row-major order.
 #![tactic(auto)]
 
 mod grid;

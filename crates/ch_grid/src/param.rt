@@ -18,7 +18,8 @@ fn is_small(number: i64) -> bool
     number.unsigned_abs() <= MAX_MAGNITUDE
 }
 
-/// Whether the low end is at most the high end, the step at least 1, and each of a magnitude of at most 2^20.
+/// Whether the low end is at most the high end, the step at least 1, and each of a magnitude of at
+/// most 2^20.
 pub(crate) fn is_good(param: &Param) -> bool
     ensures { result ≡ is_good param.now }
 {

@@ -7,7 +7,8 @@ pub enum Place {
     Built { session: u32, trial: u32 },
 }
 
-/// May hold the calling thread at a place, so that a test can bring about one order of events. It promises nothing.
+/// May hold the calling thread at a place, so that a test can bring about one order of events. It
+/// promises nothing.
 pub trait Gate {
     fn pass(&self, place: Place);
 }

@@ -1,5 +1,6 @@
-//! Where bytes come from and go to, and where threads may be held: the traits of the outside, their adapters over
-//! std, their fakes in memory, and the two calls that read a whole input and write a whole text.
+//! Where bytes come from and go to, and where threads may be held: the traits of the outside, their
+//! adapters over std, their fakes in memory, and the two calls that read a whole input and write a
+//! whole text.
 #![tactic(auto)]
 
 mod failed;

@@ -7,8 +7,8 @@ use crate::sink::Sink;
 use std::alloc::{AllocError, Global};
 use std::marker::Model;
 
-/// A sink over a room of memory, whose writes take at most `step` bytes each, and fail where a list says so and where
-/// the room is used up.
+/// A sink over a room of memory, whose writes take at most `step` bytes each, and fail where a list
+/// says so and where the room is used up.
 #[derive(Debug, Drop)]
 pub struct MemSink {
     taken: Vec<u8>,
@@ -39,8 +39,8 @@ impl Model for MemSink {
 }
 
 impl MemSink {
-    /// A sink with room for so many bytes, which it takes at once: no write grows it. The writes numbered in `fail`,
-    /// from 1, will fail.
+    /// A sink with room for so many bytes, which it takes at once: no write grows it. The writes
+    /// numbered in `fail`, from 1, will fail.
     pub fn new(
         alloc: Global,
         room: usize,
@@ -48,7 +48,8 @@ impl MemSink {
         fail: Vec<u32>,
     ) -> Result<MemSink, AllocError>
         requires { 0 < step }
-        ensures { IfOk result (λ s. s ≡ record { taken = []; room = room; step = step; fail = fail.items; next = 1; faults = 0 }) }
+        ensures { IfOk result (λ s.
+            s ≡ record { taken = []; room = room; step = step; fail = fail.items; next = 1; faults = 0 }) }
     {
         Ok(MemSink {
             taken: Vec::with_capacity(alloc, room)?,
@@ -77,7 +78,8 @@ impl Sink for MemSink {
 
     fn write(&mut self, bytes: &[u8]) -> Result<usize, Failed>
         requires { 0 < length bytes.now }
-        ensures fails { IsErr result ↔ (Contains self.old.fail self.old.next ⊎ (length self.old.taken ≡ self.old.room)) }
+        ensures fails { IsErr result ↔ (Contains self.old.fail self.old.next
+            ⊎ (length self.old.taken ≡ self.old.room)) }
         ensures count { IfOk result (λ n. n ≡ write_len self.old (length bytes.now)) }
         ensures after { self.new ≡ after_write self.old bytes.now result }
 

@@ -6,7 +6,8 @@ use crate::numbered::is_listed;
 use crate::source::Source;
 use std::marker::Model;
 
-/// A source over bytes in memory, whose reads give at most `step` bytes each and fail where a list says so.
+/// A source over bytes in memory, whose reads give at most `step` bytes each and fail where a list
+/// says so.
 #[derive(Debug, Drop)]
 pub struct MemSource {
     bytes: Vec<u8>,

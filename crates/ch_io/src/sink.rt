@@ -18,13 +18,15 @@ pub trait Sink {
         requires { 0 < length bytes.now }
         ensures some { IfOk result (λ n. 0 < n) }
         ensures bound { IfOk result (λ n. n ≤ length bytes.now) }
-        ensures bytes { IfOk result (λ n. Appends (taken self.old) (taken self.new) (take n bytes.now)) }
+        ensures bytes { IfOk result (λ n.
+            Appends (taken self.old) (taken self.new) (take n bytes.now)) }
         ensures failed { OnErr result (taken self.new ≡ taken self.old) }
         ensures later { faults self.old ≤ faults self.new }
         ensures cause { OnErr result (HasRisen (faults self.old) (faults self.new)) };
 }
 
-/// Writes a text, or the front of it that the sink takes before it fails. Each write hands over all that is left.
+/// Writes a text, or the front of it that the sink takes before it fails. Each write hands over all
+/// that is left.
 pub fn write_all<K: Sink>(sink: &mut K, text: &[u8]) -> Result<(), Failed>
     ensures all { OnOk result (Appends (K.taken sink.old) (K.taken sink.new) text.now) }
     ensures part { OnErr result (AppendsPart (K.taken sink.old) (K.taken sink.new) text.now) }

@@ -19,7 +19,8 @@ pub trait Source {
     fn read(&mut self, buf: &mut [u8]) -> Result<usize, Failed>
         requires { 0 < length buf.old }
         ensures bound { IfOk result (λ n. n ≤ length buf.old) }
-        ensures bytes { IfOk result (λ n. Consumes (left self.old) (left self.new) (take n buf.new)) }
+        ensures bytes { IfOk result (λ n.
+            Consumes (left self.old) (left self.new) (take n buf.new)) }
         ensures end { IfOk result (λ n. IfSome (left self.old) (λ all. (n ≡ 0) ↔ (all ≡ []))) }
         ensures failed { OnErr result (left self.new ≡ left self.old) }
         ensures later { faults self.old ≤ faults self.new }
@@ -45,12 +46,15 @@ pub fn read_input<S: Source>(
     most: usize,
 ) -> Result<Vec<u8>, ReadError>
     ensures most { IfOk result (λ input. vec_len input ≤ most) }
-    ensures bytes { IfOk result (λ input. IfSome (S.left source.old) (λ all. input.items ≡ take most all)) }
-    ensures rest { IfOk result (λ _. IfSome (S.left source.old) (λ all. S.left source.new ≡ Some (drop most all))) }
+    ensures bytes { IfOk result (λ input. IfSome (S.left source.old) (λ all.
+        input.items ≡ take most all)) }
+    ensures rest { IfOk result (λ _. IfSome (S.left source.old) (λ all.
+        S.left source.new ≡ Some (drop most all))) }
     ensures front { OnErr result (LosesFront most (S.left source.old) (S.left source.new)) }
 
     ensures later { S.faults source.old ≤ S.faults source.new }
-    ensures cause { result ≡ Err ReadError.Failed → HasRisen (S.faults source.old) (S.faults source.new) }
+    ensures cause { result ≡ Err ReadError.Failed
+        → HasRisen (S.faults source.old) (S.faults source.new) }
 {
     let mut input = Vec::new(alloc);
     let mut buf = [0; PIECE];

@@ -41,7 +41,8 @@ fn read_tokens(alloc: Global, bytes: &[u8]) -> Result<List<Token>, LexError>
     Ok(found)
 }
 
-/// The tokens of a text, or the first place where none begins. A number is refused at its first digit.
+/// The tokens of a text, or the first place where none begins. A number is refused at its first
+/// digit.
 pub fn tokens(alloc: Global, bytes: &[u8]) -> Result<List<Token>, LexError>
     requires { length bytes.now < 2 ^ 32 }
     ensures exact { Gives result (tokens_of bytes.now) }

@@ -1,5 +1,5 @@
-//! The words of a text: its tokens with their spans, the line and column of a place, the keywords, and the error that
-//! the parsers above share.
+//! The words of a text: its tokens with their spans, the line and column of a place, the keywords,
+//! and the error that the parsers above share.
 #![tactic(auto)]
 
 mod ahead;

@@ -1,5 +1,6 @@
-//! The rows which say that two accesses name one cell. A subscript with a modulus is its form's value less some number of turns
-//! of the modulus, a variable of its own. One variable is 1, and carries a constant that has no room beside another.
+//! The rows which say that two accesses name one cell. A subscript with a modulus is its form's
+//! value less some number of turns of the modulus, a variable of its own. One variable is 1, and
+//! carries a constant that has no room beside another.
 
 ghost use Rattle.std.specs.Prelude.{◌≡◌, ◌≤◌, ◌<◌, ◌+◌, ◌^◌, ◌+ℤ◌, ◌-ℤ◌, ◌*ℤ◌, ℤ, pos, List, length, drop, IfOk, IsTrue, OnOk};
 ghost use Rattle.std.specs.List.{All};
@@ -15,7 +16,8 @@ use ch_affine::{Aff, LARGEST_COEFFICIENT, List};
 use ch_nest::Sub;
 use std::alloc::{AllocError, Global};
 
-/// Where the iterators that an access takes and the turns of its subscripts stand among the variables.
+/// Where the iterators that an access takes and the turns of its subscripts stand among the
+/// variables.
 #[derive(Debug, Clone, Copy, PartialEq, Eq)]
 pub(crate) struct Site {
     pub(crate) iters: usize,
@@ -77,8 +79,8 @@ fn below_row(
     row(coefs, variables, -sub.form.constant)
 }
 
-/// The coefficient of the variable that is 1 and the constant of a row which together are the difference of two constants: the
-/// constant alone where it has room for the difference.
+/// The coefficient of the variable that is 1 and the constant of a row which together are the
+/// difference of two constants: the constant alone where it has room for the difference.
 fn carried(constant: i64, other: i64) -> (i64, i64)
     requires constant { IsAtMost (2 ^ 60) constant }
     requires other { IsAtMost (2 ^ 60) other }
@@ -112,7 +114,8 @@ fn same_row(
         ≡ left sub.now (drop sites.here.iters z) (at z sites.here.turns)
         -ℤ left other.now (drop sites.there.iters z) (at z sites.there.turns)) }
 {
-    // Where both constants have room in one, a divisor of the coefficients can tell that the row is never 0.
+    // Where both constants have room in one, a divisor of the coefficients can tell that the row is
+    // never 0.
     let (coef, constant) = carried(sub.form.constant, other.form.constant);
     let mut coefs = no_coefs(alloc, variables)?;
     add(&mut coefs, sites.here.iters, sub.form.coefs.as_slice())?;

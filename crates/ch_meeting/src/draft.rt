@@ -115,7 +115,8 @@ pub(crate) fn row(mut coefs: List<i64>, variables: usize, constant: i64) -> Resu
 
 /// The row of the negative values.
 fn opposite(alloc: Global, row: &Aff) -> Result<Aff, AllocError>
-    ensures { IfOk result (λ other. other ≡ form (map neg_ℤ row.now.coefs) (neg_ℤ row.now.constant)) }
+    ensures { IfOk result (λ other.
+        other ≡ form (map neg_ℤ row.now.coefs) (neg_ℤ row.now.constant)) }
 {
     let mut coefs = List::with_capacity(alloc, row.coefs.len())?;
     extend_negated(&mut coefs, row.coefs.as_slice())?;

@@ -82,7 +82,8 @@ pub(crate) fn push_pair(
     push_ranges(boxes, behind)
 }
 
-/// Adds the ranges of the iterators of both elements, of the turns of both accesses, and of the variable that is 1.
+/// Adds the ranges of the iterators of both elements, of the turns of both accesses, and of the
+/// variable that is 1.
 pub(crate) fn push_cells(
     boxes: &mut List<Range>,
     iters: usize,

@@ -1,5 +1,6 @@
-//! Questions about pairs of elements of pieces, answered by the solver: whether two accesses meet on one cell, at which level, and
-//! the least meeting pair that two other pieces have the other way round.
+//! Questions about pairs of elements of pieces, answered by the solver: whether two accesses meet
+//! on one cell, at which level, and the least meeting pair that two other pieces have the other way
+//! round.
 #![tactic(auto)]
 
 mod cells;

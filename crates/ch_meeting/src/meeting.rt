@@ -42,7 +42,8 @@ fn meeting_ranges(
     Ok(boxes)
 }
 
-/// Asks for points at which the accesses name one cell, where the iterators of both elements stand from `iters` on.
+/// Asks for points at which the accesses name one cell, where the iterators of both elements stand
+/// from `iters` on.
 pub(crate) fn ask_meeting(
     alloc: Global,
     draft: &mut Draft,
@@ -198,8 +199,8 @@ fn meets_among(
     Ok(false)
 }
 
-/// Whether the accesses of an element of `first` and of a later one of `second` name one cell, where the vectors of the two first
-/// differ at that level (0 for a place).
+/// Whether the accesses of an element of `first` and of a later one of `second` name one cell,
+/// where the vectors of the two first differ at that level (0 for a place).
 pub fn meets_at(
     alloc: Global,
     first: &Piece,

@@ -1,5 +1,5 @@
-//! The ways in which one vector comes before another: the first places and values in which they agree, and the place or value by
-//! which they differ.
+//! The ways in which one vector comes before another: the first places and values in which they
+//! agree, and the place or value by which they differ.
 
 ghost use Rattle.std.specs.Prelude.{◌≡◌, ◌≤◌, ◌<◌, ◌+◌, ◌^◌, ◌+ℤ◌, ◌-ℤ◌, ◌++◌, length, map, drop, pos, IfOk, IsTrue, OnOk, ◌↔◌, ℕ, ℤ, List};
 ghost use Rattle.std.specs.List.{All};
@@ -17,7 +17,8 @@ use crate::draft::{Draft, add_one, no_coefs, row};
 use ch_affine::{Aff, List};
 use std::alloc::{AllocError, Global};
 
-/// The first `equal` values of two vectors are the same and, where it is `less`, the next one of the first is less.
+/// The first `equal` values of two vectors are the same and, where it is `less`, the next one of
+/// the first is less.
 #[derive(Debug, Clone, Copy, PartialEq, Eq)]
 pub(crate) struct Order {
     pub(crate) equal: u32,

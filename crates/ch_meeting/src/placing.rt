@@ -36,7 +36,8 @@ fn placed_row(
     row(coefs, variables, form.constant)
 }
 
-/// The rows of a piece's system over its levels, from `levels` on, and its hidden variables, from `hidden` on.
+/// The rows of a piece's system over its levels, from `levels` on, and its hidden variables, from
+/// `hidden` on.
 fn place(
     alloc: Global,
     draft: &mut Draft,
@@ -103,7 +104,8 @@ pub(crate) fn tie(
     Ok(())
 }
 
-/// The rows of two pieces whose levels stand from `start` on, and behind them the hidden variables of both.
+/// The rows of two pieces whose levels stand from `start` on, and behind them the hidden variables
+/// of both.
 pub(crate) fn place_pair(
     alloc: Global,
     draft: &mut Draft,

@@ -31,7 +31,8 @@ pub(crate) fn are_alike(accesses: &TwoAccesses) -> bool
         && accesses.first.subs.len() == accesses.second.subs.len()
 }
 
-/// Whether the new pieces have as many iterators as those whose elements they may have: others have none of them.
+/// Whether the new pieces have as many iterators as those whose elements they may have: others have
+/// none of them.
 pub(crate) fn are_comparable(pieces: &FourPieces) -> bool
     ensures yes { IsTrue result → AreComparable pieces.now }
     ensures no { result ≡ false → AreComparable pieces.now → ⊥ }

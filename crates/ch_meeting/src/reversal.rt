@@ -34,8 +34,8 @@ fn reversal_ranges(
     Ok(boxes)
 }
 
-/// Asks for points at which the new elements have the iterators that stand from `iters` and from `others` on. Their levels stand
-/// from `start` on, those of the second before those of the first.
+/// Asks for points at which the new elements have the iterators that stand from `iters` and from
+/// `others` on. Their levels stand from `start` on, those of the second before those of the first.
 fn ask_turned(
     alloc: Global,
     draft: &mut Draft,
@@ -218,7 +218,8 @@ fn least_turned(
     Ok(least)
 }
 
-/// The same, where it is not known yet that some pair meets in the order: that is asked with fewer variables.
+/// The same, where it is not known yet that some pair meets in the order: that is asked with fewer
+/// variables.
 fn least_met(
     alloc: Global,
     pieces: &FourPieces,
@@ -281,9 +282,9 @@ fn least_ordered(
     Ok(least)
 }
 
-/// The least pair of an element of the first piece and a later one of the second whose accesses name one cell and which the new
-/// pieces have the other way round: the level values of the first element, followed by those of the second. None exactly
-/// where there is no such pair.
+/// The least pair of an element of the first piece and a later one of the second whose accesses
+/// name one cell and which the new pieces have the other way round: the level values of the first
+/// element, followed by those of the second. None exactly where there is no such pair.
 pub fn least_reversal(
     alloc: Global,
     pieces: &FourPieces,

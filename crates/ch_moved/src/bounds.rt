@@ -64,7 +64,8 @@ fn above(alloc: Global, form: &Aff, least: i64) -> Result<Aff, AllocError>
     })
 }
 
-/// Adds the row which says that the form is at least a number, where this isn't so in the whole boxes.
+/// Adds the row which says that the form is at least a number, where this isn't so in the whole
+/// boxes.
 fn push_bound(
     alloc: Global,
     rows: &mut List<Aff>,
@@ -88,7 +89,8 @@ fn push_bound(
     Ok(())
 }
 
-/// Adds the rows which say that the form's value lies in the range, where this isn't so in the whole boxes.
+/// Adds the rows which say that the form's value lies in the range, where this isn't so in the
+/// whole boxes.
 fn push_bounds(
     alloc: Global,
     rows: &mut List<Aff>,
@@ -110,7 +112,8 @@ fn push_bounds(
     push_bound(alloc, rows, boxes, &opposite, -range.high)
 }
 
-/// The extra rows, and those which say that the forms' values lie in the ranges, where this isn't so in the whole boxes.
+/// The extra rows, and those which say that the forms' values lie in the ranges, where this isn't
+/// so in the whole boxes.
 pub(crate) fn conditions(
     alloc: Global,
     boxes: &[Range],

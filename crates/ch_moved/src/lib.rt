@@ -1,5 +1,5 @@
-//! What the commands that move elements share: the list that a command makes, the causes that refuse it, and the piece over new
-//! levels from which affine forms give the old ones.
+//! What the commands that move elements share: the list that a command makes, the causes that
+//! refuse it, and the piece over new levels from which affine forms give the old ones.
 #![tactic(auto)]
 
 mod bounds;

@@ -25,7 +25,8 @@ fn push_ranges(boxes: &mut List<Range>, more: &[Range]) -> Result<(), AllocError
     Ok(())
 }
 
-/// The system of rows over all variables and conditions on the first of them, which the boxes are for, before the hidden ones.
+/// The system of rows over all variables and conditions on the first of them, which the boxes are
+/// for, before the hidden ones.
 fn joined(
     alloc: Global,
     rows: List<Aff>,
@@ -52,8 +53,9 @@ fn joined(
     })
 }
 
-/// The system over new variables from which the forms give the first ones of the old system. Where a number would pass the limit of
-/// forms the old variables become hidden ones, and the row stays as it was.
+/// The system over new variables from which the forms give the first ones of the old system. Where
+/// a number would pass the limit of forms the old variables become hidden ones, and the row stays
+/// as it was.
 fn changed(
     alloc: Global,
     old: &System,
@@ -104,9 +106,10 @@ fn origin_over(
     }
 }
 
-/// The piece over new levels within these ranges, at whose values the extra rows hold and from which the forms give the values of
-/// the old levels: the change of variables of a loop transformation. Where a row would get a number above 2^60 it stays as it was,
-/// over hidden variables that hold the old level values.
+/// The piece over new levels within these ranges, at whose values the extra rows hold and from
+/// which the forms give the values of the old levels: the change of variables of a loop
+/// transformation. Where a row would get a number above 2^60 it stays as it was, over hidden
+/// variables that hold the old level values.
 pub fn reindexed(
     alloc: Global,
     piece: &Piece,

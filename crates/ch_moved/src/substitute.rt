@@ -81,7 +81,8 @@ pub(crate) fn push_all(numbers: &mut List<i64>, more: &[i64]) -> Result<(), Allo
     Ok(())
 }
 
-/// The coefficients of the new variables in the row with the forms put in, or None where one passes the limit of forms.
+/// The coefficients of the new variables in the row with the forms put in, or None where one passes
+/// the limit of forms.
 fn new_coefs(
     alloc: Global,
     variables: usize,
@@ -91,7 +92,8 @@ fn new_coefs(
     requires few { length forms.now ≤ 10 }
     requires long { AllLong variables forms.now }
     requires old { length forms.now ≤ length row.now.coefs }
-    ensures { IfOk result (λ new. MatchOption new (IsSmall (substituted variables forms.now row.now) → ⊥)
+    ensures { IfOk result (λ new. MatchOption new (IsSmall (substituted variables forms.now row.now)
+        → ⊥)
         (λ coefs. coefs ≡ (combined (take (length forms.now) row.now.coefs) forms.now (form (zeros variables) row.now.constant)).coefs)) }
 {
     let mut coefs = List::with_capacity(alloc, variables)?;
@@ -105,8 +107,9 @@ fn new_coefs(
     Ok(Some(coefs))
 }
 
-/// The row with the forms put in place of its first variables, and with so many variables, on which it does not depend, between
-/// the new ones and those that stay. None where one of its numbers passes the limit of forms.
+/// The row with the forms put in place of its first variables, and with so many variables, on which
+/// it does not depend, between the new ones and those that stay. None where one of its numbers
+/// passes the limit of forms.
 pub(crate) fn spread(
     alloc: Global,
     variables: usize,
@@ -118,7 +121,8 @@ pub(crate) fn spread(
     requires long { AllLong variables forms.now }
     requires old { length forms.now ≤ length row.now.coefs }
     requires room { variables + (between + length row.now.coefs) ≤ 4096 + length forms.now }
-    ensures { IfOk result (λ new. MatchOption new (IsSmall (substituted variables forms.now row.now) → ⊥)
+    ensures { IfOk result (λ new. MatchOption new (IsSmall (substituted variables forms.now row.now)
+        → ⊥)
         (λ f. f ≡ spread variables forms.now between row.now)) }
 {
     let Some(mut coefs) = new_coefs(alloc, variables, forms, row)? else {
@@ -133,7 +137,8 @@ pub(crate) fn spread(
     Ok(Aff::new(coefs, constant))
 }
 
-/// The rows with the forms put in place of their first variables, or None where a number passes the limit of forms.
+/// The rows with the forms put in place of their first variables, or None where a number passes the
+/// limit of forms.
 pub(crate) fn substituted(
     alloc: Global,
     variables: usize,
@@ -144,7 +149,8 @@ pub(crate) fn substituted(
     requires long { AllLong variables forms.now }
     requires old { All (λ f. length forms.now ≤ length f.coefs) rows.now }
     requires room { All (λ f. variables + length f.coefs ≤ 4096 + length forms.now) rows.now }
-    ensures { IfOk result (λ new. MatchOption new (All (λ f. IsSmall (substituted variables forms.now f)) rows.now → ⊥)
+    ensures { IfOk result (λ new. MatchOption new (All (λ f.
+        IsSmall (substituted variables forms.now f)) rows.now → ⊥)
         (λ fs. fs ≡ map (substituted variables forms.now) rows.now)) }
 {
     let mut new = List::with_capacity(alloc, rows.len())?;

@@ -54,7 +54,8 @@ fn kept(alloc: Global, before: usize, form: &Aff) -> Result<Aff, AllocError>
     })
 }
 
-/// The row with the forms put in, or where a number of this passes the limit of forms the row as it is, over the hidden variables.
+/// The row with the forms put in, or where a number of this passes the limit of forms the row as it
+/// is, over the hidden variables.
 fn row_over(alloc: Global, variables: usize, forms: &[Aff], row: &Aff) -> Result<Aff, AllocError>
     requires few { length forms.now ≤ 10 }
     requires long { AllLong variables forms.now }
@@ -119,7 +120,8 @@ fn push_tie(
     after: usize,
 ) -> Result<(), AllocError>
     requires room { length form.now.coefs + (before + 1 + after) ≤ 4096 }
-    ensures { OnOk result (rows.new ≡ rows.old ++ tied form.now before (negsuc 0) after ∷ tied (opposite form.now) before (pos 1) after ∷ []) }
+    ensures { OnOk result (rows.new
+        ≡ rows.old ++ tied form.now before (negsuc 0) after ∷ tied (opposite form.now) before (pos 1) after ∷ []) }
 {
     rows.push(tied(alloc, form, before, -1, after)?)?;
     let opposite = opposite(alloc, form)?;
@@ -143,7 +145,8 @@ fn push_ties(
     Ok(())
 }
 
-/// The rows of a system over new variables and, as hidden ones, all of its own, the first of which are the values of the forms.
+/// The rows of a system over new variables and, as hidden ones, all of its own, the first of which
+/// are the values of the forms.
 pub(crate) fn tied_rows(
     alloc: Global,
     variables: usize,
@@ -154,7 +157,8 @@ pub(crate) fn tied_rows(
     requires long { AllLong variables forms.now }
     requires old { length forms.now ≤ old.now.vars }
     requires room { variables + old.now.vars ≤ 4096 }
-    ensures { IfOk result (λ new. StandOver (ties 0 old.now.vars forms.now) variables old.now.vars forms.now old.now.rows new) }
+    ensures { IfOk result (λ new.
+        StandOver (ties 0 old.now.vars forms.now) variables old.now.vars forms.now old.now.rows new) }
 {
     let mut rows = List::new(alloc);
     push_ties(alloc, &mut rows, forms, old.vars as usize)?;

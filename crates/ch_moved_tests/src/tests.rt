@@ -7,8 +7,8 @@ ghost use Rattle.ch_affine.specs.Rows.{IsBox};
 ghost use Rattle.ch_moved.specs.Reindexed.{IsReindexed};
 ghost use Rattle.ch_space.specs.Keeps.{IsWhole};
 
-use ch_moved::reindexed;
 use ch_affine::{Aff, List, Range, System};
+use ch_moved::reindexed;
 use ch_nest::{Access, Body, Expr};
 use ch_space::Piece;
 use ch_timed::Label;

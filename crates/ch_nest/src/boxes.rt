@@ -144,7 +144,8 @@ fn is_near(z: i128) -> bool
 }
 
 fn small_range(low: i128, high: i128) -> Option<Range>
-    ensures { MatchOption result (is_small (record { low = low; high = high }) ≡ false) (λ r. (r ≡ record { low = low; high = high }) × IsSmall r) }
+    ensures { MatchOption result (is_small (record { low = low; high = high }) ≡ false) (λ r.
+        (r ≡ record { low = low; high = high }) × IsSmall r) }
 {
     if !is_near(low) || !is_near(high) {
         return None;
@@ -161,7 +162,8 @@ pub fn small_box(boxes: &[Range], lows: &[Aff], highs: &[Aff]) -> Option<Range>
     requires lows { IsTrue (list_all (coefs_fit (length boxes.now)) lows.now) }
     requires highs { IsTrue (list_all (coefs_fit (length boxes.now)) highs.now) }
     requires boxes { All IsSmall boxes.now }
-    ensures { MatchOption result (is_small (box_of boxes.now lows.now highs.now) ≡ false) (λ r. (r ≡ box_of boxes.now lows.now highs.now) × IsSmall r) }
+    ensures { MatchOption result (is_small (box_of boxes.now lows.now highs.now) ≡ false) (λ r.
+        (r ≡ box_of boxes.now lows.now highs.now) × IsSmall r) }
 {
     let low = low_end(boxes, lows);
     let high = low.max(least_of_greatest(boxes, highs));

@@ -1,4 +1,5 @@
-/// Why the shape of a program forbids a command: the first of the causes C1 to C11 that holds, before any dependence is looked at.
+/// Why the shape of a program forbids a command: the first of the causes C1 to C11 that holds,
+/// before any dependence is looked at.
 ///
 /// | code | cause | number |
 /// |---|---|---|

@@ -6,7 +6,8 @@ use crate::forms::{form_fits, is_at_most};
 use crate::limits::{MOST_NESTING, MOST_NUMBER, MOST_OPERANDS};
 use crate::nest::{Access, ArrayDecl, Body, Expr, Sub};
 
-/// Where in a text a right side stands: where a sum may stand, where a product may, or where neither may.
+/// Where in a text a right side stands: where a sum may stand, where a product may, or where
+/// neither may.
 #[derive(Clone, Copy, Debug)]
 pub enum Standing {
     Term,

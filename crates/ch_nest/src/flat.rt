@@ -22,8 +22,9 @@ pub(crate) enum FlatExpr {
 
 /// An item in which each access is one form. A loop knows how many loops stand around it.
 ///
-/// The ends of loops and the rows of conditions are taken in 128 bits: a row's coefficients reach 2^31 and
-/// values of loops 2^30, so that its value need not fit into 64. The places of cells do, and wrap on the way.
+/// The ends of loops and the rows of conditions are taken in 128 bits: a row's coefficients reach
+/// 2^31 and values of loops 2^30, so that its value need not fit into 64. The places of cells do,
+/// and wrap on the way.
 #[derive(Debug, Drop)]
 pub(crate) enum FlatItem {
     Loop {
@@ -192,8 +193,8 @@ fn moved(point: &Point, level: u32, value: i64) -> Point
     inner
 }
 
-/// Does what the items do, in order. It asks nothing of them: a place that isn't there reads as 0 and isn't
-/// written.
+/// Does what the items do, in order. It asks nothing of them: a place that isn't there reads as 0
+/// and isn't written.
 #[cycle(flat)]
 #[tactic(auto, using(crate::proofs::FlatRuns::run_flats_more))]
 pub(crate) fn run_flats(items: &[FlatItem], point: &Point, cells: &mut [i64])

@@ -4,10 +4,11 @@ ghost use Rattle.ch_nest.specs.CostModel.{cost_model, is_cache_size, is_machine}
 use crate::limits::{MOST_CACHE, MOST_CHARGE};
 use std::marker::Model;
 
-/// What a program's elements cost: the turns of loops that begin, and the cells whose line the cache
-/// doesn't hold.
+/// What a program's elements cost: the turns of loops that begin, and the cells whose line the
+/// cache doesn't hold.
 ///
-/// By its type a turn and a miss cost at most 2^20 each, and there are 1 to 4,096 lines of 1 to 4,096 cells.
+/// By its type a turn and a miss cost at most 2^20 each, and there are 1 to 4,096 lines of 1 to
+/// 4,096 cells.
 #[derive(Clone, Copy, Debug, PartialEq, Eq)]
 pub struct Machine {
     /// The cost of a turn that begins.
@@ -61,8 +62,8 @@ impl Machine {
         })
     }
 
-    /// Tells a caller that the machine's numbers keep their limits, as those of each value of the type do. It
-    /// does nothing.
+    /// Tells a caller that the machine's numbers keep their limits, as those of each value of the
+    /// type do. It does nothing.
     pub fn known(&self)
         ensures { IsTrue (is_machine self.now) }
     {

@@ -202,8 +202,8 @@ fn item_form(
     }
 }
 
-/// Runs a sound nest once in program order, as [`run_nest`] does, but finds the place of each access once, before it starts.
-/// Memory is taken before the first cell is written.
+/// Runs a sound nest once in program order, as [`run_nest`] does, but finds the place of each
+/// access once, before it starts. Memory is taken before the first cell is written.
 pub fn perform(alloc: Global, nest: &Nest, cells: &mut List<i64>) -> Result<(), AllocError>
     requires size { length cells.old ≡ total (extents_of nest.now.arrays) }
     requires inside { IsTrue (items_inside (extents_of nest.now.arrays) nest.now.items []) }

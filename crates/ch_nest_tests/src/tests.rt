@@ -1,9 +1,9 @@
 //! The edges of the limits, and small nests whose cells were worked out by hand.
 
+use ch_affine::{Aff, Boxed, List, Text};
 use ch_nest::{
     Access, ArrayDecl, Body, Expr, Fill, Item, Nest, Sub, filled, is_sound, perform, run_nest,
 };
-use ch_affine::{Aff, Boxed, List, Text};
 use std::alloc::{AllocError, Global};
 use std::test::Fail;
 
@@ -434,7 +434,8 @@ fn nests_keep_their_limits(rt: HostRuntime) -> Result<(), Fail> {
     Ok(())
 }
 
-/// The cells after a run that started from the fills, or `None` where the nest can't be run or its two runs differ.
+/// The cells after a run that started from the fills, or `None` where the nest can't be run or its
+/// two runs differ.
 #[tactic(auto, using(ch_nest::proofs::Sounds::arrays_of, ch_nest::proofs::Sounds::inside_of))]
 fn ran(alloc: Global, nest: &Nest, fills: &[Fill]) -> Result<Option<List<i64>>, AllocError> {
     nest.known();

@@ -74,8 +74,10 @@ fn single<'a>(
     around: &Around<'_, '_>,
     tokens: &'a [Token],
 ) -> Result<(List<Aff>, &'a [Token]), ParseError>
-    ensures exact { Gives (λ r. (r.0, r.1.now)) result (single_at around.now.bytes.now around.now.names.now (length around.now.boxes.now) tokens.now) }
-    ensures fits { IfOk result (λ r. IsTrue (list_all (form_fits (length around.now.boxes.now)) r.0)) }
+    ensures exact { Gives (λ r.
+        (r.0, r.1.now)) result (single_at around.now.bytes.now around.now.names.now (length around.now.boxes.now) tokens.now) }
+    ensures fits { IfOk result (λ r.
+        IsTrue (list_all (form_fits (length around.now.boxes.now)) r.0)) }
 {
     let mut forms = List::new(around.alloc);
     let (form, rest) = form(around, MOST_NESTING, Ending::Semicolon, tokens)?;
@@ -89,8 +91,10 @@ fn several<'a>(
     around: &Around<'_, '_>,
     tokens: &'a [Token],
 ) -> Result<(List<Aff>, &'a [Token]), ParseError>
-    ensures exact { Gives (λ r. (r.0, r.1.now)) result (several_at around.now.bytes.now around.now.names.now (length around.now.boxes.now) tokens.now) }
-    ensures fits { IfOk result (λ r. IsTrue (list_all (form_fits (length around.now.boxes.now)) r.0)) }
+    ensures exact { Gives (λ r.
+        (r.0, r.1.now)) result (several_at around.now.bytes.now around.now.names.now (length around.now.boxes.now) tokens.now) }
+    ensures fits { IfOk result (λ r.
+        IsTrue (list_all (form_fits (length around.now.boxes.now)) r.0)) }
 {
     let rest = sign(around.bytes, Code2::P1, Sign::LeftParen, tokens)?;
     let mut forms = List::new(around.alloc);
@@ -111,8 +115,10 @@ fn end_forms<'a>(
     word: Keyword,
     tokens: &'a [Token],
 ) -> Result<(List<Aff>, &'a [Token]), ParseError>
-    ensures exact { Gives (λ r. (r.0, r.1.now)) result (ends_at around.now.bytes.now word around.now.names.now (length around.now.boxes.now) tokens.now) }
-    ensures fits { IfOk result (λ r. IsTrue (list_all (form_fits (length around.now.boxes.now)) r.0)) }
+    ensures exact { Gives (λ r.
+        (r.0, r.1.now)) result (ends_at around.now.bytes.now word around.now.names.now (length around.now.boxes.now) tokens.now) }
+    ensures fits { IfOk result (λ r.
+        IsTrue (list_all (form_fits (length around.now.boxes.now)) r.0)) }
 {
     if begins(around.bytes, word, tokens) {
         several(around, after(tokens))
@@ -149,7 +155,8 @@ fn low<'a>(
     at: u32,
     tokens: &'a [Token],
 ) -> Result<(Ends, &'a [Token]), ParseError>
-    ensures exact { Gives (λ r. (r.0, r.1.now)) result (low_at around.now.bytes.now around.now.names.now around.now.boxes.now at tokens.now) }
+    ensures exact { Gives (λ r.
+        (r.0, r.1.now)) result (low_at around.now.bytes.now around.now.names.now around.now.boxes.now at tokens.now) }
     ensures near { IfOk result (λ r. is_at_most most_affine r.0.end ≡ true) }
 {
     let (forms, rest) = end_forms(around, Keyword::Max, tokens)?;
@@ -214,7 +221,8 @@ fn high<'a>(
     low: i64,
     tokens: &'a [Token],
 ) -> Result<(Ends, &'a [Token]), ParseError>
-    ensures exact { Gives (λ r. (r.0, r.1.now)) result (high_at around.now.bytes.now around.now.names.now around.now.boxes.now at low tokens.now) }
+    ensures exact { Gives (λ r.
+        (r.0, r.1.now)) result (high_at around.now.bytes.now around.now.names.now around.now.boxes.now at low tokens.now) }
     ensures near { IfOk result (λ r. is_at_most most_affine r.0.end ≡ true) }
 {
     let (strict, rest) = strict_if(
@@ -245,7 +253,8 @@ fn number_step<'a>(
     tokens: &'a [Token],
 ) -> Result<(u32, &'a [Token]), ParseError>
     requires { length bytes.now < 2 ^ 32 }
-    ensures { Gives (λ r. (r.0, r.1.now)) result (number_step_at bytes.now text.now lows.now tokens.now) }
+    ensures { Gives (λ r.
+        (r.0, r.1.now)) result (number_step_at bytes.now text.now lows.now tokens.now) }
 {
     let rest = sign(bytes, Code2::P1, Sign::Equals, tokens)?;
     let rest = same_name(bytes, text, rest)?;
@@ -293,15 +302,16 @@ fn step<'a>(
     Ok((step, rest))
 }
 
-/// The head of a loop behind its `for`, which stands at byte `at`: its name, its ends, its step, and the box of its
-/// iterator.
+/// The head of a loop behind its `for`, which stands at byte `at`: its name, its ends, its step,
+/// and the box of its iterator.
 #[tactic(auto, unfolding(crate::specs::Heads::head_at))]
 pub(crate) fn head<'a, 'b>(
     around: &Around<'b, '_>,
     at: u32,
     tokens: &'a [Token],
 ) -> Result<(&'b [u8], Heading, &'a [Token]), ParseError>
-    ensures exact { Gives (λ r. (record { name = r.0.now; lows = r.1.lows; highs = r.1.highs; step = r.1.step; box = r.1.range }, r.2.now)) result (head_at around.now.bytes.now around.now.names.now around.now.boxes.now at tokens.now) }
+    ensures exact { Gives (λ r.
+        (record { name = r.0.now; lows = r.1.lows; highs = r.1.highs; step = r.1.step; box = r.1.range }, r.2.now)) result (head_at around.now.bytes.now around.now.names.now around.now.boxes.now at tokens.now) }
     ensures absent { IfOk result (λ r. find_name r.0.now around.now.names.now ≡ None) }
     ensures small { IfOk result (λ r. IsSmall r.1.range) }
 {

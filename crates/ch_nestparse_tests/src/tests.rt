@@ -1,8 +1,8 @@
 //! Programs that are refused, with the byte that the refusal names, and programs that are accepted.
 
-use ch_nestparse::{ParsedProgram, parse_program};
 use ch_affine::Text;
 use ch_lex::{Code2, ParseError, tokens};
+use ch_nestparse::{ParsedProgram, parse_program};
 use std::alloc::Global;
 use std::process::Abort;
 use std::test::Fail;
@@ -36,7 +36,8 @@ fn compare_refusals(rt: &impl Abort, alloc: Global, cases: &[Refused<'_>]) -> Re
     Ok(())
 }
 
-/// A text with the bytes of its accesses, the number of its tokens, and how many arrays and items it has.
+/// A text with the bytes of its accesses, the number of its tokens, and how many arrays and items
+/// it has.
 type Accepted<'a> = (&'a [u8], &'a [u32], u32, usize, usize);
 
 #[test]

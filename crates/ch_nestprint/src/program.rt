@@ -109,7 +109,8 @@ fn put_needed_lets(
     letters: usize,
     items: &[Item],
 ) -> Result<(), AllocError>
-    ensures { OnOk result (out.new ≡ out.old ++ lets_symbols letters [] (minus_in_items items.now)) }
+    ensures { OnOk result (out.new
+        ≡ out.old ++ lets_symbols letters [] (minus_in_items items.now)) }
 {
     let mut sizes = List::new(alloc);
     items_sizes(&mut sizes, items)?;
@@ -125,7 +126,8 @@ fn put_parts(
     items: &[Item],
     fills: &[Fill],
 ) -> Result<(), AllocError>
-    ensures { OnOk result (out.new ≡ out.old ++ parts_symbols letters arrays.now items.now fills.now) }
+    ensures { OnOk result (out.new
+        ≡ out.old ++ parts_symbols letters arrays.now items.now fills.now) }
 {
     put_needed_lets(alloc, out, letters, items)?;
     put_arrays(alloc, out, arrays, fills)?;
@@ -170,10 +172,11 @@ fn printed(alloc: Global, name: &Text, nest: &Nest, fills: &[Fill]) -> Result<Te
     spell(alloc, symbols.as_slice())
 }
 
-/// The text of a program: `program`, this name, and in braces the arrays with their fills and the items of the nest.
+/// The text of a program: `program`, this name, and in braces the arrays with their fills and the
+/// items of the nest.
 ///
-/// Iterators are named by their level, and a negative number of a right side by a let of its own. There is one fill for each
-/// array.
+/// Iterators are named by their level, and a negative number of a right side by a let of its own.
+/// There is one fill for each array.
 #[tactic(auto, using(crate::proofs::Printing::shows, crate::proofs::Printing::reads))]
 pub fn print_program(
     alloc: Global,
@@ -182,8 +185,10 @@ pub fn print_program(
     fills: &[Fill],
 ) -> Result<Text, AllocError>
     ensures text { IfOk result (λ text. text ≡ program_text name.now nest.now fills.now) }
-    ensures tokens { IsPrintable name.now nest.now.arrays fills.now → IfOk result (λ text. Shows text (program_symbols name.now nest.now fills.now)) }
-    ensures reads { IsPrintable name.now nest.now.arrays fills.now → IfOk result (λ text. IsReadAs text name.now nest.now fills.now) }
+    ensures tokens { IsPrintable name.now nest.now.arrays fills.now → IfOk result (λ text.
+        Shows text (program_symbols name.now nest.now fills.now)) }
+    ensures reads { IsPrintable name.now nest.now.arrays fills.now → IfOk result (λ text.
+        IsReadAs text name.now nest.now fills.now) }
 {
     nest.known();
     printed(alloc, name, nest, fills)

@@ -36,7 +36,8 @@ fn put_number_operand(
     letters: usize,
     value: i64,
 ) -> Result<(), AllocError>
-    ensures { OnOk result (out.new ≡ out.old ++ constant_symbol (is_below value) letters (unsigned_abs value) ∷ []) }
+    ensures { OnOk result (out.new
+        ≡ out.old ++ constant_symbol (is_below value) letters (unsigned_abs value) ∷ []) }
 {
     if value < 0 {
         return put_minus_name(alloc, out, letters, value.unsigned_abs());
@@ -65,7 +66,8 @@ pub fn put_right(
     expr: &Expr,
     standing: Standing,
 ) -> Result<(), AllocError>
-    ensures { OnOk result (out.new ≡ out.old ++ right_symbols arrays.now letters expr.now standing) }
+    ensures { OnOk result (out.new
+        ≡ out.old ++ right_symbols arrays.now letters expr.now standing) }
 {
     match expr {
         Expr::Number(n) => put_number_operand(alloc, out, letters, *n),

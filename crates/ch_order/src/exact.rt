@@ -17,7 +17,8 @@ pub(crate) struct WideNumber {
     pub low: i128,
 }
 
-/// The sum. The upper part grows by at most 2^62 + 2, so that there is room for as many terms as a slice has.
+/// The sum. The upper part grows by at most 2^62 + 2, so that there is room for as many terms as a
+/// slice has.
 fn plus(sum: WideNumber, more: i128) -> WideNumber
     requires low { IsLowPart sum.low }
     requires room { unsigned_abs sum.high ≤ 2 ^ 126 + 2 ^ 66 }

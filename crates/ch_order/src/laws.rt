@@ -17,8 +17,8 @@ ghost use Rattle.ch_timed.specs.Order.{Pair, do_all};
 ghost use Rattle.ch_timed.specs.Start.{start};
 ghost use Rattle.ch_timed.specs.Timed.{Step, is_well_formed, step};
 
-/// A list that may stand in the place of another one does the same to every store. It accesses the same cells, and where
-/// flat arrays have all of them it does the same to these.
+/// A list that may stand in the place of another one does the same to every store. It accesses the
+/// same cells, and where flat arrays have all of them it does the same to these.
 pub fn legal_does_same()
     ensures store { (old new : List Element) → IsLegal old new
         → (store : Store) → done old store ≡ done new store }
@@ -29,8 +29,9 @@ pub fn legal_does_same()
         → (cells : List ℤ) → done_flat extents old cells ≡ done_flat extents new cells }
 {}
 
-/// Of any number of lists each of which is legal in the place of the one before it, the last one does what the first one
-/// does, to every store and to flat arrays that have each cell which the first one accesses.
+/// Of any number of lists each of which is legal in the place of the one before it, the last one
+/// does what the first one does, to every store and to flat arrays that have each cell which the
+/// first one accesses.
 pub fn legal_steps_do_same()
     ensures store { (first : List Element) (later : List (List Element)) → IsLegalChain first later
         → (store : Store) → done first store ≡ done (last_list first later) store }
@@ -43,10 +44,10 @@ pub fn legal_steps_do_same()
         → done_flat extents first cells ≡ done_flat extents (last_list first later) cells }
 {}
 
-/// What leaves the same in a program's arrays (`KeepsArrays`): each list itself; a list that does to every
-/// store what the other one does and accesses no other cells, as a legal one; a list that differs in one
-/// buffer alone, behind the arrays and the buffers so far, as a copy; and what keeps the arrays in the
-/// place of a list that keeps them.
+/// What leaves the same in a program's arrays (`KeepsArrays`): each list itself; a list that does
+/// to every store what the other one does and accesses no other cells, as a legal one; a list that
+/// differs in one buffer alone, behind the arrays and the buffers so far, as a copy; and what keeps
+/// the arrays in the place of a list that keeps them.
 pub fn keeping_arrays_composes()
     ensures itself { (arrays buffers : List (List ℕ)) (list : List Element)
         → KeepsArrays arrays list buffers list buffers }
@@ -70,9 +71,10 @@ pub fn keeping_arrays_composes()
         → KeepsArrays arrays first first_buffers last last_buffers }
 {}
 
-/// A list that keeps what another one leaves in the arrays, with buffers behind the other's, leaves the same
-/// flat arrays, whatever its buffers hold. So, for a nest none of whose subscripts leaves its array, a list
-/// that keeps what the nest's own list leaves runs the nest, also where its buffers start as 0.
+/// A list that keeps what another one leaves in the arrays, with buffers behind the other's, leaves
+/// the same flat arrays, whatever its buffers hold. So, for a nest none of whose subscripts leaves
+/// its array, a list that keeps what the nest's own list leaves runs the nest, also where its
+/// buffers start as 0.
 pub fn kept_arrays_are_equal()
     ensures flat { (arrays buffers more : List (List ℕ)) (old new : List Element)
         → KeepsArrays arrays old buffers new (buffers ++ more)
@@ -105,7 +107,8 @@ pub fn neighbours_change_places()
         ≡ do_all execute (front ++ b ∷ a ∷ back) store }
 {}
 
-/// Flat arrays hold what the store holds, cell by cell, also after the elements of a list were executed in both.
+/// Flat arrays hold what the store holds, cell by cell, also after the elements of a list were
+/// executed in both.
 pub fn arrays_hold_the_store()
     ensures { (extents : List (List ℕ)) (list : List Element) (cells : List ℤ)
         → StaysInside extents list → length cells ≡ total extents
@@ -113,9 +116,10 @@ pub fn arrays_hold_the_store()
         → look extents (done_flat extents list cells) c ≡ done list (look extents cells) c }
 {}
 
-/// Of two well formed lists, the second of which has the steps of the first, `reversed` finds a pair exactly where two
-/// conflicting elements stand the other way round, and then the least of these pairs: the one whose first element comes
-/// first in the old list, and of several of these the one whose second element does.
+/// Of two well formed lists, the second of which has the steps of the first, `reversed` finds a
+/// pair exactly where two conflicting elements stand the other way round, and then the least of
+/// these pairs: the one whose first element comes first in the old list, and of several of these
+/// the one whose second element does.
 pub fn reversed_is_least()
     ensures none { (old new : List Element) → IsTrue (is_well_formed old)
         → IsTrue (is_well_formed new) → AreAmong old new
@@ -131,8 +135,8 @@ pub fn reversed_is_least()
         → reversed old new ≡ Some (record { first = step a; second = step b; cell = c }) }
 {}
 
-/// A nest none of whose subscripts leaves its array does to its arrays what each list does that is legal in the place of its
-/// own list, also after any number of legal steps.
+/// A nest none of whose subscripts leaves its array does to its arrays what each list does that is
+/// legal in the place of its own list, also after any number of legal steps.
 pub fn legal_list_runs_the_nest()
     ensures one { (nest : LoopNest)
         → IsTrue (items_inside (extents_of nest.arrays) nest.items [])

@@ -1,5 +1,5 @@
-//! The order law: two timed lists of the same steps do the same to every store, unless two elements that conflict are
-//! executed the other way round.
+//! The order law: two timed lists of the same steps do the same to every store, unless two elements
+//! that conflict are executed the other way round.
 #![tactic(auto)]
 
 mod bodies;

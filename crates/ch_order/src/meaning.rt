@@ -1,5 +1,6 @@
-//! Whether two timed lists have the same meaning. The lists are walked from vector to vector and never stored; the number of
-//! calls of `Timed::after` is at most about the third power of their length.
+//! Whether two timed lists have the same meaning. The lists are walked from vector to vector and
+//! never stored; the number of calls of `Timed::after` is at most about the third power of their
+//! length.
 
 ghost use Rattle.std.specs.Prelude.{◌≡◌, ◌↔◌, ◌∷◌, [], ℕ, ℤ, IfOk, IsTrue, List, MatchOption, is_some};
 ghost use Rattle.ch_order.specs.Legal.{AreAmong, IsLegal, IsLegalBy, steps};
@@ -159,8 +160,8 @@ fn has_reversed<A: Timed, B: Timed, C: KeepOrder>(
     Ok(false)
 }
 
-/// Whether two timed lists have the same steps, each once, and no two of them that must keep their order by
-/// the given rule stand the other way round. `Err` where memory runs out.
+/// Whether two timed lists have the same steps, each once, and no two of them that must keep their
+/// order by the given rule stand the other way round. `Err` where memory runs out.
 pub fn same_meaning_by<A: Timed, B: Timed, C: KeepOrder>(
     alloc: Global,
     old: &A,
@@ -181,10 +182,12 @@ pub fn same_meaning_by<A: Timed, B: Timed, C: KeepOrder>(
     Ok(!reversed)
 }
 
-/// Whether two timed lists have the same steps, each once, and no two of them that conflict stand the other way round.
+/// Whether two timed lists have the same steps, each once, and no two of them that conflict stand
+/// the other way round.
 ///
-/// Then both do the same to every store, and to all flat arrays that have each cell which they access. `Err` where memory
-/// runs out. The number of calls of `Timed::after` is at most about the third power of the lists' length.
+/// Then both do the same to every store, and to all flat arrays that have each cell which they
+/// access. `Err` where memory runs out. The number of calls of `Timed::after` is at most about the
+/// third power of the lists' length.
 pub fn same_meaning<A: Timed, B: Timed>(alloc: Global, old: &A, new: &B) -> Result<bool, AllocError>
     ensures legal { IfOk result (λ t. IsTrue t ↔ IsLegal (A.list old.now) (B.list new.now)) }
     ensures store { IfOk result (λ t. IsTrue t → (store : Store)

@@ -4,16 +4,16 @@ ghost use Rattle.std.specs.Prelude.{◌≡◌, pos, IfOk};
 ghost use Rattle.ch_nest.specs.declared.nest.Expr.TheVariants.{Number, Read};
 ghost use Rattle.ch_order.specs.Samples.{access, assigned, last_write, reader_or_writer, three};
 
-use ch_order::same_meaning;
 use crate::tests::{one, precedes};
 use ch_affine::{Aff, List};
 use ch_nest::{Access, Body, Expr, Sub};
+use ch_order::same_meaning;
 use ch_timed::{Element, Identity, Label, Timed};
 use std::alloc::{AllocError, Global};
 use std::test::Fail;
 
-/// `A[0] = 7` before `A[1] = A[0]`, or the other way round where the reader is first. `A[k] = 5` is executed behind both, or
-/// between them.
+/// `A[0] = 7` before `A[1] = A[0]`, or the other way round where the reader is first. `A[k] = 5` is
+/// executed behind both, or between them.
 #[derive(Clone, Copy)]
 struct Assignments {
     reader_first: bool,

@@ -4,13 +4,13 @@ ghost use Rattle.std.specs.Prelude.{◌≡◌, true, false, IfOk, [], ◌∷◌}
 ghost use Rattle.ch_order.specs.Samples.{body, instance, named, pair, parity};
 ghost use Rattle.ch_timed.specs.Vectors.{comes_before};
 
+use ch_affine::{Aff, List};
+use ch_nest::{Access, Body, Expr, Sub};
 use ch_order::{
     arrays_hold_the_store, keeping_arrays_composes, kept_arrays_are_equal, legal_does_same,
     legal_list_runs_the_nest, legal_steps_do_same, neighbours_change_places, reversed_is_least,
     same_meaning,
 };
-use ch_affine::{Aff, List};
-use ch_nest::{Access, Body, Expr, Sub};
 use ch_timed::{Element, Identity, Label, Timed};
 use std::alloc::{AllocError, Global};
 use std::test::Fail;

@@ -42,7 +42,8 @@ fn permuted_piece(
     requires whole { IsWhole piece.now }
     requires room { HasRoom 1 piece.now }
     requires permutation { IsTrue (is_permutation order.now) }
-    requires turns { is_moving ≡ true → Turns piece.now.levels (source order.now) (target order.now) }
+    requires turns { is_moving ≡ true
+        → Turns piece.now.levels (source order.now) (target order.now) }
     ensures { IfOk result (Becomes is_moving (picked order.now) 1 piece.now) }
 {
     if is_moving {
@@ -102,7 +103,8 @@ fn raised_if(
     }
 }
 
-/// The pieces, the named ones with the value of the level greater by `amount` and by the values before it times their amounts.
+/// The pieces, the named ones with the value of the level greater by `amount` and by the values
+/// before it times their amounts.
 pub(crate) fn raised_pieces(
     alloc: Global,
     pieces: &[Piece],

@@ -23,7 +23,8 @@ fn push_negatives(numbers: &mut List<i64>, amounts: &[i64]) -> Result<(), AllocE
     Ok(())
 }
 
-/// The form of the one variable behind those of the amounts and `gap` more, less the amounts times their variables.
+/// The form of the one variable behind those of the amounts and `gap` more, less the amounts times
+/// their variables.
 fn less(
     alloc: Global,
     amounts: &[i64],

@@ -17,7 +17,8 @@ pub fn same_order_changes_nothing()
 
 /// A loop that is skewed by zeros stays as it is.
 pub fn skew_by_zeros_changes_nothing()
-    ensures { (list : List Element) (numbers : List ℤ) (level : ℤ) (n : ℕ) → IsTrue (is_well_formed list)
+    ensures { (list : List Element) (numbers : List ℤ) (level : ℤ) (n : ℕ)
+        → IsTrue (is_well_formed list)
         → skewed list numbers level (zeros n) ≡ closed_up list }
 {}
 

@@ -1,4 +1,5 @@
-//! Loops in another order, skewed loops and shifted loops: the commands that keep the pieces and their places, and change loop values.
+//! Loops in another order, skewed loops and shifted loops: the commands that keep the pieces and
+//! their places, and change loop values.
 #![tactic(auto)]
 
 mod change;

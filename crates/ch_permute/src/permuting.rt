@@ -68,8 +68,9 @@ fn permuted(alloc: Global, space: &Space, number: i64, order: &[i64]) -> Result<
     closed_space(alloc, space, pieces, counts, space.weight)
 }
 
-/// The space with the loops around a piece in another order: the new loop of each level is the one that the order names. Pieces
-/// that share the first loop which another one replaces change with it. It is not tested whether the program means the same.
+/// The space with the loops around a piece in another order: the new loop of each level is the one
+/// that the order names. Pieces that share the first loop which another one replaces change with
+/// it. It is not tested whether the program means the same.
 pub fn permute(alloc: Global, space: &Space, piece: i64, order: &[i64]) -> Result<Space, ShapeError>
     requires few { space.now.commands < 32 }
     ensures cause { Answers result (permute_cause space.now.list piece order.now) }

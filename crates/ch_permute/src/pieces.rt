@@ -48,7 +48,8 @@ pub(crate) fn turned_piece(alloc: Global, piece: &Piece, order: &[i64]) -> Resul
     with_levels(alloc, piece, forms.as_slice(), boxes)
 }
 
-/// The piece with the loop value of `level`, counted from 0, greater by `amount` and by the values before it times their amounts.
+/// The piece with the loop value of `level`, counted from 0, greater by `amount` and by the values
+/// before it times their amounts.
 pub(crate) fn raised_piece(
     alloc: Global,
     piece: &Piece,

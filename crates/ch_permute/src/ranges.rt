@@ -18,7 +18,8 @@ use std::alloc::{AllocError, Global};
 fn scaled(range: Range, amount: i64) -> Range
     requires range { IsBounded (2 ^ 51) range }
     requires amount { IsAtMost 64 amount }
-    ensures value { result ≡ record { low = least_term amount range; high = greatest_term amount range } }
+    ensures value { result
+        ≡ record { low = least_term amount range; high = greatest_term amount range } }
     ensures near { IsBounded (2 ^ 57) result }
 {
     let (low, high) = (amount * range.low, amount * range.high);
@@ -44,7 +45,8 @@ fn plus(a: Range, b: Range) -> Range
     }
 }
 
-/// The range of a loop value once `amount`, and the other values times their amounts, are added to it.
+/// The range of a loop value once `amount`, and the other values times their amounts, are added to
+/// it.
 fn greater(range: Range, amounts: &[i64], amount: i64, boxes: &[Range]) -> Range
     requires few { length amounts.now ≤ 10 }
     requires boxes { length amounts.now ≤ length boxes.now }

@@ -84,7 +84,8 @@ fn shift_cause(space: &Space, numbers: &[i64], level: i64, amount: i64) -> Optio
     too_large(&[amount], 1 << 20)
 }
 
-/// The space with the value of the level greater in the named pieces, by `amount` and by the values around it times their amounts.
+/// The space with the value of the level greater in the named pieces, by `amount` and by the values
+/// around it times their amounts.
 fn raised(
     alloc: Global,
     space: &Space,
@@ -102,7 +103,8 @@ fn raised(
     requires near { IsAtMost (2 ^ 20) amount }
     requires weight { weight ≡ space.now.weight * growth amounts.now }
     requires light { weight ≤ most_weight }
-    ensures list { IfOk result (λ new. new.list ≡ moved (revalued (is_named space.now.list numbers.now)
+    ensures list { IfOk result (λ new. new.list
+        ≡ moved (revalued (is_named space.now.list numbers.now)
         (plus (form amounts.now amount) (natural level - 1))) space.now.list) }
     ensures kept { IfOk result (λ new. AreAmong space.now.list new.list) }
     ensures no_others { IfOk result (λ new. AreAmong new.list space.now.list) }
@@ -117,8 +119,8 @@ fn raised(
     closed_space(alloc, space, pieces, counts, weight)
 }
 
-/// The space with a skewed loop: in the named pieces each loop value around the level, times its amount, is added to that of the
-/// level. It is not tested whether the program means the same.
+/// The space with a skewed loop: in the named pieces each loop value around the level, times its
+/// amount, is added to that of the level. It is not tested whether the program means the same.
 pub fn skew(
     alloc: Global,
     space: &Space,
@@ -129,7 +131,8 @@ pub fn skew(
     requires few { space.now.commands < 32 }
     ensures cause { Answers result
         (skew_cause space.now.list space.now.weight pieces.now level amounts.now) }
-    ensures list { IfOk result (λ new. new.list ≡ skewed space.now.list pieces.now level amounts.now) }
+    ensures list { IfOk result (λ new. new.list
+        ≡ skewed space.now.list pieces.now level amounts.now) }
     ensures kept { IfOk result (λ new. AreAmong space.now.list new.list) }
     ensures no_others { IfOk result (λ new. AreAmong new.list space.now.list) }
     ensures arrays { IfOk result (λ new. new.arrays ≡ space.now.arrays) }
@@ -145,8 +148,8 @@ pub fn skew(
     Ok(new)
 }
 
-/// The space with a shifted loop: in the named pieces the amount is added to the loop value of the level. It is not tested whether
-/// the program means the same.
+/// The space with a shifted loop: in the named pieces the amount is added to the loop value of the
+/// level. It is not tested whether the program means the same.
 pub fn shift(
     alloc: Global,
     space: &Space,

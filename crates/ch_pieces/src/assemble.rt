@@ -19,7 +19,8 @@ pub fn assembled(alloc: Global, candidates: List<Candidate>) -> Result<Assembled
     requires whole { All (λ c. IsWhole (wide c)) candidates }
     requires few { All (λ c. length (instances c.piece) < 2 ^ 64) candidates }
     requires known { All IsKnown candidates }
-    requires differ { Pairwise (λ q r. places_of q ≢ places_of r) (filter has_instance (map wide candidates)) }
+    requires differ { Pairwise (λ q r.
+        places_of q ≢ places_of r) (filter has_instance (map wide candidates)) }
     requires number { length candidates ≤ 2 ^ 20 }
     ensures { IfOk result (λ r. IsAssembled candidates r.pieces r.counts) }
 {

@@ -1,4 +1,5 @@
-//! The places of parts that stand in order, closed up: renumbered 0, 1, 2 and so on among those that follow the same places.
+//! The places of parts that stand in order, closed up: renumbered 0, 1, 2 and so on among those
+//! that follow the same places.
 
 ghost use Rattle.std.specs.Prelude.{◌≡◌, ◌≤◌, length, map, IfOk};
 ghost use Rattle.std.specs.List.{All};
@@ -11,11 +12,13 @@ use ch_affine::List;
 use ch_space::Piece;
 use std::alloc::{AllocError, Global};
 
-/// The places of each part, closed up. Each follows from those of the part before, as the parts stand in order.
+/// The places of each part, closed up. Each follows from those of the part before, as the parts
+/// stand in order.
 pub(crate) fn closed_places(alloc: Global, parts: &[Part]) -> Result<List<List<u32>>, AllocError>
     requires apart { AreApart (map wide_part parts.now) }
     requires few { length parts.now ≤ 2097152 }
-    ensures { IfOk result (λ closed. AreRanks (map places_of (map wide_part parts.now)) (map wide_part parts.now) closed) }
+    ensures { IfOk result (λ closed.
+        AreRanks (map places_of (map wide_part parts.now)) (map wide_part parts.now) closed) }
 {
     let mut closed = List::with_capacity(alloc, parts.len())?;
     for k in 0..parts.len() {

@@ -1,5 +1,6 @@
-//! How many instances a piece has. A walk over the values of its levels takes no memory for them; where a value has no point, the
-//! least greater one that has some is found at once, however far it is.
+//! How many instances a piece has. A walk over the values of its levels takes no memory for them;
+//! where a value has no point, the least greater one that has some is found at once, however far it
+//! is.
 
 ghost use Rattle.std.specs.Prelude.{◌≡◌, ◌≤◌, ◌<◌, ◌^◌, ◌∷◌, [], ◌++◌, length, map, IfOk, IsTrue, OnOk};
 ghost use Rattle.ch_poly.specs.Points.{begins_some};
@@ -106,7 +107,8 @@ fn goes_on(
     requires inner { length front.old < system.now.vars }
     requires room_vars { system.now.vars ≤ room.old.vars }
     requires room_rows { length system.now.rows ≤ room.old.rows }
-    ensures found { IfOk result (λ found. found ≡ begins_some system.now (front.old ++ value ∷ [])) }
+    ensures found { IfOk result (λ found. found
+        ≡ begins_some system.now (front.old ++ value ∷ [])) }
     ensures front { OnOk result (front.new ≡ front.old) }
     ensures room { room.new ≡ room.old }
 {
@@ -116,7 +118,8 @@ fn goes_on(
     Ok(found)
 }
 
-/// The least value of the range with which some point goes on behind the front, by the least point of a narrower system.
+/// The least value of the range with which some point goes on behind the front, by the least point
+/// of a narrower system.
 fn least_in(
     alloc: Global,
     system: &System,
@@ -134,7 +137,8 @@ fn least_in(
     }
 }
 
-/// The system with its first ranges narrowed to the values of the front, and this range behind them.
+/// The system with its first ranges narrowed to the values of the front, and this range behind
+/// them.
 fn narrowed(
     alloc: Global,
     system: &System,
@@ -143,7 +147,8 @@ fn narrowed(
 ) -> Result<System, AllocError>
     requires begins { IsTrue (begins_some system.now front.now) }
     requires rest { IsRest system.now.boxes (length front.now) range }
-    ensures { IfOk result (λ narrow. narrow ≡ with_boxes system.now (cut front.now range system.now.boxes)) }
+    ensures { IfOk result (λ narrow.
+        narrow ≡ with_boxes system.now (cut front.now range system.now.boxes)) }
 {
     let rows = copied_forms(alloc, system.rows.as_slice())?;
     let boxes = cut(alloc, front, range, system.boxes.as_slice())?;

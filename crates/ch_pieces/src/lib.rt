@@ -1,5 +1,5 @@
-//! The pieces of a space from candidates: pieces in any order, some without instances, at places that need not be closed up.
-//! What the commands share that split pieces or give them other places.
+//! The pieces of a space from candidates: pieces in any order, some without instances, at places
+//! that need not be closed up. What the commands share that split pieces or give them other places.
 #![tactic(auto)]
 
 mod assemble;

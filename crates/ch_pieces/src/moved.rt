@@ -19,8 +19,8 @@ use std::alloc::{AllocError, Global};
 /// The most pieces of a space.
 const MOST_PIECES: usize = 256;
 
-/// The space one command after another one, of the candidates that have instances: they stand in the order of their places, which
-/// are closed up. C7 where they are more than 256.
+/// The space one command after another one, of the candidates that have instances: they stand in
+/// the order of their places, which are closed up. C7 where they are more than 256.
 pub fn moved_space(
     alloc: Global,
     before: &Space,
@@ -32,9 +32,11 @@ pub fn moved_space(
     requires light { weight ≤ most_weight }
     requires number { length candidates ≤ 2 ^ 20 }
     requires are { AreSomeCandidates before.now.list weight (before.now.commands + 1) candidates }
-    ensures cause { (change : Element → Element) → AreCandidates change before.now.list weight (before.now.commands + 1) candidates
+    ensures cause { (change : Element → Element)
+        → AreCandidates change before.now.list weight (before.now.commands + 1) candidates
         → Answers result (too_many change before.now.list) }
-    ensures list { (change : Element → Element) → AreCandidates change before.now.list weight (before.now.commands + 1) candidates
+    ensures list { (change : Element → Element)
+        → AreCandidates change before.now.list weight (before.now.commands + 1) candidates
         → IfOk result (λ new. new.list ≡ moved change before.now.list) }
     ensures kept { IfOk result (λ new. AreAmong before.now.list new.list) }
     ensures no_others { IfOk result (λ new. AreAmong new.list before.now.list) }

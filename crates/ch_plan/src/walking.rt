@@ -95,7 +95,8 @@ fn walk_all(
     ensures point { point.new ≡ point.old }
     ensures cells { cells.new
         ≡ run_plans setting.now.vars setting.now.rows plans.now point.old cells.old }
-    ensures meter { state tally.new ≡ meter_plans setting.now plans.now point.old (state tally.old) }
+    ensures meter { state tally.new
+        ≡ meter_plans setting.now plans.now point.old (state tally.old) }
 {
     for plan in plans {
         walk(setting, plan, point, cells, tally, room);

@@ -6,8 +6,8 @@ ghost use Rattle.ch_poly.specs.Cutting.{KeepsNumber, KeepsNear, IsSameBut};
 
 use ch_affine::Range;
 
-/// The part of a range where a coefficient's term is at most `slack` below its greatest value. It is never empty, and
-/// nothing is divided where the whole range is left.
+/// The part of a range where a coefficient's term is at most `slack` below its greatest value. It
+/// is never empty, and nothing is divided where the whole range is left.
 fn cut(coef: i64, slack: u128, range: Range) -> Range
     requires coef_small { IsAtMost (2 ^ 60) coef }
     requires low_small { IsAtMost (2 ^ 54) range.low }
@@ -93,8 +93,8 @@ fn is_narrower(range: Range, low: i64, high: i64) -> bool
     range.low != low || range.high != high
 }
 
-/// Cuts each range to the numbers where the row's term is at most `slack` below its greatest value, and says whether
-/// one is another now.
+/// Cuts each range to the numbers where the row's term is at most `slack` below its greatest value,
+/// and says whether one is another now.
 pub fn cut_all(coefs: &[i64], slack: u128, lows: &mut [i64], highs: &mut [i64]) -> bool
     requires same { length coefs.now ≡ length lows.old }
     requires coefs_small { All (IsAtMost (2 ^ 60)) coefs.now }

@@ -1,7 +1,7 @@
-//! Equalities that follow from those among the rows: whole-number elimination from the last variable
-//! backwards, to a reduced echelon form (Gauss and Jordan's, without fractions). A line has one
-//! variable that no other line has, and beside it only variables that no line was solved for. As of
-//! the simplex, nothing is claimed of what is found here.
+//! Equalities that follow from those among the rows: whole-number elimination from the last
+//! variable backwards, to a reduced echelon form (Gauss and Jordan's, without fractions). A line
+//! has one variable that no other line has, and beside it only variables that no line was solved
+//! for. As of the simplex, nothing is claimed of what is found here.
 
 use crate::divisor::gcd;
 use crate::negative::is_negative;

@@ -16,8 +16,8 @@ use ch_affine::{Aff, Range, System};
 use std::alloc::{AllocError, Global};
 use std::slice;
 
-/// The greatest value of the form, which has as many variables as the system, over the points of the box at which all
-/// rows hold. None where there is none. All memory is taken before the search.
+/// The greatest value of the form, which has as many variables as the system, over the points of
+/// the box at which all rows hold. None where there is none. All memory is taken before the search.
 pub fn greatest_value(alloc: Global, s: &System, form: &Aff) -> Result<Option<i128>, AllocError>
     requires same { length form.now.coefs ≡ s.now.vars }
     ensures { IfOk result (λ v. v ≡ greatest_of (map (value form.now) (points s.now))) }
@@ -89,7 +89,10 @@ fn greatest_in(
     requires lows { length lows.old ≡ length boxes.now }
     requires highs { length highs.old ≡ length boxes.now }
     requires room { 2 * length boxes.now * length boxes.now ≤ length room.old }
-    ensures { MatchOption result (IsEmpty (Reaches (pos 0) rows.now) (map (λ b. b.low) boxes.now) (map (λ b. b.high) boxes.now)) (λ v. IsGreatest (Reaches (pos 0) rows.now) form.now v (map (λ b. b.low) boxes.now) (map (λ b. b.high) boxes.now)) }
+    ensures { MatchOption result (IsEmpty (Reaches (pos 0) rows.now) (map (λ b.
+        b.low) boxes.now) (map (λ b. b.high) boxes.now)) (λ v.
+        IsGreatest (Reaches (pos 0) rows.now) form.now v (map (λ b. b.low) boxes.now) (map (λ b.
+        b.high) boxes.now)) }
 {
     write_box(boxes, lows, highs);
     let mut high = greatest(form, lows, highs);
@@ -140,7 +143,8 @@ fn value_found(
     }
 }
 
-/// A number above `low` and at most `high`, about halfway. The step is capped so that it fits in `i128`.
+/// A number above `low` and at most `high`, about halfway. The step is capped so that it fits in
+/// `i128`.
 fn middle(low: i128, high: i128) -> i128
     requires { low <ℤ high }
     ensures above { low <ℤ result }

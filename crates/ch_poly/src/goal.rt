@@ -5,7 +5,8 @@ ghost use Rattle.ch_poly.specs.Goals.{Reaches};
 
 use ch_affine::Aff;
 
-/// What a point has to meet: the rows are at least 0 there, and the forms of `tops` at least `bound`.
+/// What a point has to meet: the rows are at least 0 there, and the forms of `tops` at least
+/// `bound`.
 ///
 /// A bound stands beside its forms, since taken into a form's constant it would leave the type.
 #[derive(Drop)]

@@ -34,8 +34,8 @@ fn lacks(d: u64, number: u128) -> bool
     }
 }
 
-/// Whether the sum has this value at no point of the box, since the greatest common divisor of the open variables'
-/// coefficients doesn't divide what the fixed ones leave of it.
+/// Whether the sum has this value at no point of the box, since the greatest common divisor of the
+/// open variables' coefficients doesn't divide what the fixed ones leave of it.
 pub fn misses(coefs: &[i64], bound: i128, lows: &[i64], highs: &[i64]) -> bool
     requires same { length coefs.now ≡ length lows.now }
     requires small { All (IsAtMost (2 ^ 60)) coefs.now }

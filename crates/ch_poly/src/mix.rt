@@ -58,8 +58,8 @@ fn clear(sums: &mut [i64])
     }
 }
 
-/// Leaves the coefficients of the sum of the rows, each times its factor where that is above 0, and answers the bound that
-/// the sum reaches wherever the rows hold. None where a number is too large.
+/// Leaves the coefficients of the sum of the rows, each times its factor where that is above 0, and
+/// answers the bound that the sum reaches wherever the rows hold. None where a number is too large.
 pub fn mix(rows: &[Aff], space: &[i64], sums: &mut [i64]) -> Option<i128>
     requires same { All (λ f. length f.coefs ≡ length sums.old) rows.now }
     ensures small { All (IsAtMost (2 ^ 60)) sums.new }

@@ -4,8 +4,8 @@ ghost use Rattle.ch_poly.specs.Opposed.{IsOpposed, IsNever};
 use crate::negative::are_negative;
 use ch_affine::Aff;
 
-/// Whether two of the rows contradict each other at each point: their sum is a constant below 0. Without this test the
-/// narrowing would walk as long as the loops are, one number at a time.
+/// Whether two of the rows contradict each other at each point: their sum is a constant below 0.
+/// Without this test the narrowing would walk as long as the loops are, one number at a time.
 pub fn any_opposed(rows: &[Aff]) -> bool
     ensures { IsTrue result → IsNever rows.now }
 {

@@ -15,7 +15,8 @@ use std::marker::Model;
 
 /// The memory of one search, by the most variables and rows that it is enough for.
 ///
-/// A search over n variables works on a box and on one further box at each depth: 2 * n * n + 2 * n numbers.
+/// A search over n variables works on a box and on one further box at each depth: 2 * n * n + 2 * n
+/// numbers.
 #[derive(Debug, Drop)]
 pub struct Room {
     lows: Vec<i64>,
@@ -45,7 +46,8 @@ impl Room {
         let count = vars as usize;
         let lows = vec![in alloc; 0i64; count]?;
         let highs = vec![in alloc; 0i64; count]?;
-        // In two halves, since twice the square might pass `usize`, and want of memory is then told by the allocator.
+        // In two halves, since twice the square might pass `usize`, and want of memory is then told
+        // by the allocator.
         let half = vec![in alloc; 0i64; count * count]?;
         let mut others = vec![in alloc; 0i64; count * count]?;
         others.extend_from_slice(half.as_slice())?;
@@ -92,8 +94,10 @@ fn solve_in(
     requires lows { length boxes.now ≤ length lows.old }
     requires highs { length highs.old ≡ length lows.old }
     requires others { 2 * length lows.old * length lows.old ≤ length others.old }
-    ensures yes { IsTrue result → HasPoint rows.now fixed.now (map (λ b. b.low) boxes.now) (map (λ b. b.high) boxes.now) }
-    ensures no { result ≡ false → HasPoint rows.now fixed.now (map (λ b. b.low) boxes.now) (map (λ b. b.high) boxes.now) → ⊥ }
+    ensures yes { IsTrue result → HasPoint rows.now fixed.now (map (λ b.
+        b.low) boxes.now) (map (λ b. b.high) boxes.now) }
+    ensures no { result ≡ false → HasPoint rows.now fixed.now (map (λ b.
+        b.low) boxes.now) (map (λ b. b.high) boxes.now) → ⊥ }
 {
     if any_opposed(rows) {
         return false;
@@ -117,8 +121,10 @@ fn solve_in(
 fn fix_front(fixed: &[i64], lows: &mut [i64], highs: &mut [i64]) -> bool
     requires few { length fixed.now ≤ length lows.old }
     requires same { length highs.old ≡ length lows.old }
-    ensures yes { IsTrue result → IsFixed (length fixed.now) fixed.now lows.old highs.old lows.new highs.new }
-    ensures no { result ≡ false → (p : List ℤ) → Within lows.old highs.old p → Begins fixed.now p → ⊥ }
+    ensures yes { IsTrue result
+        → IsFixed (length fixed.now) fixed.now lows.old highs.old lows.new highs.new }
+    ensures no { result ≡ false → (p : List ℤ) → Within lows.old highs.old p → Begins fixed.now p
+        → ⊥ }
 {
     for k in 0..fixed.len() {
         if fixed[k] < lows[k] || highs[k] < fixed[k] {

@@ -12,8 +12,10 @@ fn holds(goal: &Goal, point: &[i64]) -> bool
     requires same_rows { All (λ f. length f.coefs ≡ length point.now) goal.now.rows.now }
     requires same_tops { All (λ f. length f.coefs ≡ length point.now) goal.now.tops.now }
     requires small { All (IsAtMost (2 ^ 54)) point.now }
-    ensures yes { IsTrue result → Meets goal.now.rows.now goal.now.tops.now goal.now.bound point.now }
-    ensures no { result ≡ false → Meets goal.now.rows.now goal.now.tops.now goal.now.bound point.now → ⊥ }
+    ensures yes { IsTrue result
+        → Meets goal.now.rows.now goal.now.tops.now goal.now.bound point.now }
+    ensures no { result ≡ false → Meets goal.now.rows.now goal.now.tops.now goal.now.bound point.now
+        → ⊥ }
 {
     reach(goal.rows, 0, point) && reach(goal.tops, goal.bound, point)
 }
@@ -59,8 +61,9 @@ fn enter(lows: &[i64], highs: &[i64], k: usize, low_room: &mut [i64], high_room:
 
 /// Leaves the least point of the box that meets the goal in `lows`. False where there is none.
 ///
-/// Narrows the box and then branches on the first variable from `from` on that is still open, from its lowest number
-/// upward: each branch is another box in `room`, and a branch without a point raises the variable's low by one.
+/// Narrows the box and then branches on the first variable from `from` on that is still open, from
+/// its lowest number upward: each branch is another box in `room`, and a branch without a point
+/// raises the variable's low by one.
 pub fn search(
     goal: &Goal,
     from: usize,
@@ -75,8 +78,10 @@ pub fn search(
     requires from { from ≤ length lows.old }
     requires fixed { (k : ℕ) → k < from → at lows.old k ≡ at highs.old k }
     requires room { 2 * length lows.old * (length lows.old - from) ≤ length room.old }
-    ensures yes { IsTrue result → IsLeast (Meets goal.now.rows.now goal.now.tops.now goal.now.bound) lows.old highs.old lows.new }
-    ensures no { result ≡ false → IsEmpty (Meets goal.now.rows.now goal.now.tops.now goal.now.bound) lows.old highs.old }
+    ensures yes { IsTrue result
+        → IsLeast (Meets goal.now.rows.now goal.now.tops.now goal.now.bound) lows.old highs.old lows.new }
+    ensures no { result ≡ false
+        → IsEmpty (Meets goal.now.rows.now goal.now.tops.now goal.now.bound) lows.old highs.old }
 {
     let count = lows.len();
     loop {

@@ -1,7 +1,9 @@
-//! Factors for the rows, by an exact dual simplex in whole numbers with a common denominator (Edmonds 1967, Bareiss 1968).
+//! Factors for the rows, by an exact dual simplex in whole numbers with a common denominator
+//! (Edmonds 1967, Bareiss 1968).
 //!
-//! Nothing is claimed of them and nothing need be: any numbers that are at least 0 give a row that follows. So all of
-//! this wraps, reads 0 outside its space and writes nothing there, and gives up where a number passes 2^62.
+//! Nothing is claimed of them and nothing need be: any numbers that are at least 0 give a row that
+//! follows. So all of this wraps, reads 0 outside its space and writes nothing there, and gives up
+//! where a number passes 2^62.
 
 use ch_affine::Aff;
 
@@ -9,8 +11,8 @@ const LIMIT: u128 = 1 << 62;
 
 const PIVOTS: u32 = 60;
 
-/// Where the parts lie in one slice of numbers: a line of cells for each row and one for the objective, and beside them
-/// the variables' places.
+/// Where the parts lie in one slice of numbers: a line of cells for each row and one for the
+/// objective, and beside them the variables' places.
 #[derive(Debug, Clone, Copy)]
 pub struct Shape {
     pub vars: usize,
@@ -53,7 +55,8 @@ impl Shape {
     }
 }
 
-/// The numbers that `multipliers` works on, and two more for each variable. 0 where they would be too many.
+/// The numbers that `multipliers` works on, and two more for each variable. 0 where they would be
+/// too many.
 pub fn space_len(vars: usize, rows: usize) -> usize {
     if vars > 1 << 10 || rows > 1 << 10 {
         return 0;
@@ -77,8 +80,8 @@ pub fn factor(vars: usize, rows: usize, space: &[i64], row: usize) -> i64 {
     get(space, Shape { vars, rows }.factor(row))
 }
 
-/// Leaves a factor for each row, such that the rows' sum bounds variable `k` from below in the box as well as any sum
-/// does, or contradicts the box. False where there is none.
+/// Leaves a factor for each row, such that the rows' sum bounds variable `k` from below in the box
+/// as well as any sum does, or contradicts the box. False where there is none.
 pub fn multipliers(rows: &[Aff], lows: &[i64], highs: &[i64], k: usize, space: &mut [i64]) -> bool {
     let shape = Shape {
         vars: lows.len(),
@@ -207,7 +210,8 @@ fn worst(
     found
 }
 
-/// The column whose variable moves the line's towards its range at the least cost for the objective.
+/// The column whose variable moves the line's towards its range at the least cost for the
+/// objective.
 fn entering(
     shape: Shape,
     lows: &[i64],
@@ -274,7 +278,8 @@ fn objective(shape: Shape, space: &mut [i64]) -> bool {
     any
 }
 
-/// Solves the line for the column's variable, and puts it into the other lines. Answers the new denominator.
+/// Solves the line for the column's variable, and puts it into the other lines. Answers the new
+/// denominator.
 fn pivot(shape: Shape, row: usize, col: usize, den: i64, space: &mut [i64]) -> Option<i64> {
     let cell = get(space, shape.cell(row, col));
     let size = cell.wrapping_abs();
@@ -336,7 +341,8 @@ fn divided(value: i128, den: i64) -> i128 {
     }
 }
 
-/// The line's variable goes to the end of its range that it had passed, and the column's becomes the line's.
+/// The line's variable goes to the end of its range that it had passed, and the column's becomes
+/// the line's.
 fn exchange(
     shape: Shape,
     lows: &[i64],

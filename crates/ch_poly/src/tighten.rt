@@ -11,8 +11,8 @@ use crate::search::first_open;
 use crate::simplex::multipliers;
 use ch_affine::Aff;
 
-/// Narrows by equalities that follow from the rows, and by the sum of the rows that bounds variable `k` best from below, or
-/// contradicts the box. Without enough space it changes nothing.
+/// Narrows by equalities that follow from the rows, and by the sum of the rows that bounds variable
+/// `k` best from below, or contradicts the box. Without enough space it changes nothing.
 fn narrow_best(
     rows: &[Aff],
     k: usize,
@@ -45,8 +45,8 @@ fn narrow_best(
     Some(by_equalities | by_sum)
 }
 
-/// Narrows the ranges by each row and top, and then by a sum of rows for the first variable from `from` on that is still
-/// open. False where no point of the box meets the goal.
+/// Narrows the ranges by each row and top, and then by a sum of rows for the first variable from
+/// `from` on that is still open. False where no point of the box meets the goal.
 pub fn tighten(
     goal: &Goal,
     from: usize,
@@ -61,8 +61,10 @@ pub fn tighten(
     ensures boxed { IsBoxed lows.new highs.new }
     ensures inside { Inside lows.old highs.old lows.new highs.new }
     ensures narrower { widths lows.new highs.new ≤ widths lows.old highs.old }
-    ensures keeps { IsTrue result → Keeps (Meets goal.now.rows.now goal.now.tops.now goal.now.bound) lows.old highs.old lows.new highs.new }
-    ensures empty { result ≡ false → IsEmpty (Meets goal.now.rows.now goal.now.tops.now goal.now.bound) lows.old highs.old }
+    ensures keeps { IsTrue result
+        → Keeps (Meets goal.now.rows.now goal.now.tops.now goal.now.bound) lows.old highs.old lows.new highs.new }
+    ensures empty { result ≡ false
+        → IsEmpty (Meets goal.now.rows.now goal.now.tops.now goal.now.bound) lows.old highs.old }
 {
     if !narrow(goal, lows, highs) {
         return false;

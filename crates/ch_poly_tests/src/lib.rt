@@ -1,5 +1,5 @@
-//! Tests of ch_poly, apart from it so that its proof is not repeated: small systems against plain enumeration of their
-//! boxes, and the edges of the types.
+//! Tests of ch_poly, apart from it so that its proof is not repeated: small systems against plain
+//! enumeration of their boxes, and the edges of the types.
 #![tactic(auto)]
 
 #[cfg(test)]

@@ -1,4 +1,5 @@
-//! Small systems against plain enumeration of their boxes, and the edges of the types, with values computed elsewhere.
+//! Small systems against plain enumeration of their boxes, and the edges of the types, with values
+//! computed elsewhere.
 
 ghost use Rattle.std.specs.Prelude.{◌≡◌, ◌≤◌, length};
 

@@ -45,7 +45,8 @@ pub fn put_integers(out: &mut Text, numbers: &[i64]) -> Result<(), AllocError>
 }
 
 fn put_more_integers(out: &mut Text, numbers: &[i64]) -> Result<(), AllocError>
-    ensures { OnOk result (out.new ≡ out.old ++ flat_map (behind (codes ",") integer_text) numbers.now) }
+    ensures { OnOk result (out.new
+        ≡ out.old ++ flat_map (behind (codes ",") integer_text) numbers.now) }
 {
     for number in numbers {
         out.append(b",")?;

@@ -23,8 +23,9 @@ use std::alloc::{AllocError, Global};
 use std::marker::Model;
 use std::mem::replace;
 
-/// Where a search stands: the trials so far, the round that is being costed with the trials that it asks for, the last
-/// simplex that was costed whole, and in the rounds `Try` and `Expand` the reflections with their outcomes.
+/// Where a search stands: the trials so far, the round that is being costed with the trials that it
+/// asks for, the last simplex that was costed whole, and in the rounds `Try` and `Expand` the
+/// reflections with their outcomes.
 #[derive(Drop)]
 pub(crate) struct Game {
     trials: Trials,
@@ -128,7 +129,8 @@ impl Game {
     fn shifted(&self, how: Move, top: u32, trial: u32) -> [u32; 6]
         requires top { top < length self.now.points }
         requires trial { trial < length self.now.points }
-        ensures value { take (length self.now.sizes) result ≡ moved (rule how) self.now.sizes (point_at self.now top) (point_at self.now trial) }
+        ensures value { take (length self.now.sizes) result
+            ≡ moved (rule how) self.now.sizes (point_at self.now top) (point_at self.now trial) }
         ensures in_grid { is_point self.now.sizes (take (length self.now.sizes) result) ≡ true }
     {
         moved(
@@ -274,7 +276,8 @@ impl Game {
         }
     }
 
-    /// Where some reflection beats the best point, the expansion of the best one's source is tried. Else all shrink.
+    /// Where some reflection beats the best point, the expansion of the best one's source is tried.
+    /// Else all shrink.
     fn reflected(&mut self, row: Row)
         requires some { 0 < length self.old.simplex }
         requires few { length row ≤ 13 }
@@ -289,7 +292,8 @@ impl Game {
         }
     }
 
-    /// Where the tried expansion beats the best reflection, all expand. Else the reflections are taken.
+    /// Where the tried expansion beats the best reflection, all expand. Else the reflections are
+    /// taken.
     fn tried(&mut self, row: &Row)
         requires some { 0 < length self.old.simplex }
         requires steps { self.old.steps < 2 ^ 63 }
@@ -303,7 +307,8 @@ impl Game {
         }
     }
 
-    /// Where a neighbour beats the best point, they are the next simplex. Else the search has converged.
+    /// Where a neighbour beats the best point, they are the next simplex. Else the search has
+    /// converged.
     fn probed(&mut self, row: &Row)
         requires some { 0 < length self.old.simplex }
         requires few { length row.now ≤ 13 }
@@ -324,7 +329,8 @@ impl Game {
     fn asked_row(&self, outcomes: &[Option<Outcome>]) -> Option<Row>
         requires { length outcomes.now ≡ count self.now.sizes }
         ensures value { result ≡ costed (known_by outcomes.now) self.now.asked }
-        ensures row { IfSome result (λ row. (length row ≤ 13) × (length row ≡ length self.now.asked) × All (λ c. c.trial < length self.now.points) row) }
+        ensures row { IfSome result (λ row. (length row ≤ 13) × (length row ≡ length self.now.asked)
+            × All (λ c. c.trial < length self.now.points) row) }
     {
         let _ = self.trials.len();
         costed(outcomes, self.asked.as_slice())
@@ -335,7 +341,9 @@ impl Game {
         requires long { length outcomes.now ≡ count self.old.sizes }
         requires round { IsRound self.old }
         requires most { most < 2 ^ 63 }
-        ensures { MatchBool result (advance most (known_by outcomes.now) self.old ≡ Some self.new) ((advance most (known_by outcomes.now) self.old ≡ None) × (self.new ≡ self.old)) }
+        ensures { MatchBool result (advance most (known_by outcomes.now) self.old
+            ≡ Some self.new) ((advance most (known_by outcomes.now) self.old ≡ None)
+            × (self.new ≡ self.old)) }
     {
         if self.steps >= most || self.phase == Phase::Converged {
             return false;
@@ -370,7 +378,8 @@ impl Game {
         self.trials.len()
     }
 
-    /// The number from which on a trial may wait: a round waits for no more trials than it asks for.
+    /// The number from which on a trial may wait: a round waits for no more trials than it asks
+    /// for.
     pub(crate) fn first_waiting(&self) -> u32
         ensures { result ≡ length self.now.points - length self.now.asked }
     {

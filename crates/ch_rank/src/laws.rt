@@ -28,8 +28,8 @@ pub fn outcomes_and_points_stay()
         (played (at_entries grid repeat (entries ++ more))).points }
 {}
 
-/// Whatever outcomes are known, each trial is at a point of the grid and no two are at one. So there are no more trials
-/// than points of the grid.
+/// Whatever outcomes are known, each trial is at a point of the grid and no two are at one. So
+/// there are no more trials than points of the grid.
 pub fn trials_are_points()
     ensures in_grid { (grid : List Param) (outcomes : Known)
         → All (λ p. is_point (sizes grid) p ≡ true) (search_on (sizes grid) outcomes).points }

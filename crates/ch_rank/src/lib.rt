@@ -1,6 +1,6 @@
-//! Parallel rank ordering: a search on a grid that moves all points of a simplex about its best one, round by round, as the
-//! outcomes of its trials come in. What a search says is the search played anew on all entries; the code goes on from where
-//! it waited.
+//! Parallel rank ordering: a search on a grid that moves all points of a simplex about its best
+//! one, round by round, as the outcomes of its trials come in. What a search says is the search
+//! played anew on all entries; the code goes on from where it waited.
 #![tactic(auto)]
 
 mod bound;

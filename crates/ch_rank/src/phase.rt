@@ -1,4 +1,5 @@
-/// The round that is being costed: its points are asked for, and once all of them have an outcome it is decided.
+/// The round that is being costed: its points are asked for, and once all of them have an outcome
+/// it is decided.
 #[derive(Clone, Copy, Debug, PartialEq, Eq)]
 pub enum Phase {
     /// The first simplex.

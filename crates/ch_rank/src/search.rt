@@ -20,12 +20,14 @@ use std::marker::Model;
 /// Why an entry is refused.
 #[derive(Clone, Copy, Debug, PartialEq, Eq)]
 pub enum RankError {
-    /// The trial isn't pending: it has no point yet, or it has its outcome. Or a trial that was measured is refused.
+    /// The trial isn't pending: it has no point yet, or it has its outcome. Or a trial that was
+    /// measured is refused.
     NotPending { trial: u32 },
 }
 
-/// A search by parallel rank ordering, in which each trial is measured a number of times and counts by the least cost.
-/// Contracts see its grid, this number and its entries, and the number of entries that can be made without memory.
+/// A search by parallel rank ordering, in which each trial is measured a number of times and counts
+/// by the least cost. Contracts see its grid, this number and its entries, and the number of
+/// entries that can be made without memory.
 #[derive(Drop)]
 pub struct Search {
     params: Vec<Param>,
@@ -51,8 +53,8 @@ impl Model for Search {
 }
 
 impl Search {
-    /// A search that waits for its first simplex. It takes one cell for each point of the grid, so that to remember an
-    /// outcome by its point never takes memory.
+    /// A search that waits for its first simplex. It takes one cell for each point of the grid, so
+    /// that to remember an outcome by its point never takes memory.
     pub fn start(alloc: Global, grid: &Grid, repeat: u32) -> Result<Search, AllocError>
         requires { (1 ≤ repeat) × (repeat ≤ 9) }
         ensures { IfOk result (λ search. search
@@ -185,13 +187,15 @@ impl Search {
         self.game.simplex().len() as u32
     }
 
-    /// The place at rank `r`, counted from 0: the places of the last fully costed simplex in order of outcome, then of place.
+    /// The place at rank `r`, counted from 0: the places of the last fully costed simplex in order
+    /// of outcome, then of place.
     pub fn rank_at(&self, r: u32) -> Option<Rank>
         ensures value { result
             ≡ option_map rank_of (slice_get (ranks (played self.now).simplex) r) }
         ensures here { IfSome result (λ rank. rank.trial < length (played self.now).points) }
         ensures entered { IfSome result (λ rank. IsSome (known_in self.now rank.trial)) }
-        // At the end the first rank's trial has the least outcome, and no neighbour of its point in the grid beats it.
+        // At the end the first rank's trial has the least outcome, and no neighbour of its point in
+        // the grid beats it.
         ensures least { (played self.now).phase ≡ Converged → r ≡ 0
             → IsSomeAnd result (λ rank. IsLeast self.now rank.trial) }
     {
@@ -229,7 +233,8 @@ impl Search {
         self.game.len()
     }
 
-    /// Tells a caller that the search's entries are legal: each was allowed after those before it. It does nothing.
+    /// Tells a caller that the search's entries are legal: each was allowed after those before it.
+    /// It does nothing.
     pub fn entries_are_legal(&self)
         ensures { are_legal self.now.grid self.now.repeat self.now.entries ≡ true }
     {

@@ -30,7 +30,8 @@ impl Model for Trials {
 impl Trials {
     /// No trial yet, and one cell for each point of the grid.
     pub fn start(alloc: Global, grid: &Grid) -> Result<Trials, AllocError>
-        ensures { IfOk result (λ trials. trials ≡ record { sizes = sizes grid.now.params; points = [] }) }
+        ensures { IfOk result (λ trials. trials
+            ≡ record { sizes = sizes grid.now.params; points = [] }) }
     {
         let points = grid.points() as usize;
         Ok(Trials {
@@ -81,7 +82,8 @@ impl Trials {
     /// The point of a trial, with zeros after its indices.
     pub fn row_of(&self, trial: u32) -> [u32; 6]
         requires { trial < length self.now.points }
-        ensures value { take (length self.now.sizes) result ≡ slice_index_or self.now.points trial [] }
+        ensures value { take (length self.now.sizes) result
+            ≡ slice_index_or self.now.points trial [] }
         ensures in_grid { is_point self.now.sizes (take (length self.now.sizes) result) ≡ true }
     {
         let _ = &self.sizes;

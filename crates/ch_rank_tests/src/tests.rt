@@ -1,6 +1,6 @@
-use ch_rank::*;
 use ch_affine::List;
 use ch_grid::{Grid, Param};
+use ch_rank::*;
 use std::alloc::{AllocError, Global};
 use std::process::Abort;
 use std::test::Fail;
@@ -12,7 +12,8 @@ enum Costs {
     Refused,
     /// A product of n rows and n columns, with tiles of one more than the indices.
     Tiles(u64),
-    /// The distance from an index of the first parameter, in whole steps of so many; points from a limit on are refused.
+    /// The distance from an index of the first parameter, in whole steps of so many; points from a
+    /// limit on are refused.
     Valley {
         bottom: u32,
         coarse: u32,

@@ -1,5 +1,5 @@
-//! Reads each recipe of a folder, in the order of their names, and prints its refusal, or its text and
-//! the forms of its conditions. Last comes a recipe of 80,000 commands.
+//! Reads each recipe of a folder, in the order of their names, and prints its refusal, or its text
+//! and the forms of its conditions. Last comes a recipe of 80,000 commands.
 //!
 //! The folder is the one that the program runs in, or the one that its first argument names.
 #![tactic(auto)]

@@ -13,8 +13,9 @@ ghost use Rattle.ch_timed.specs.Flat.{StaysInside, done_flat};
 ghost use Rattle.ch_timed.specs.Order.{do_all};
 ghost use Rattle.ch_timed.specs.Timed.{Step};
 
-/// A list of the same steps, each once, that has no pair in free conflict the other way round does the same to every store
-/// and to all flat arrays that have each cell which the other list accesses. Each legal list is such a list.
+/// A list of the same steps, each once, that has no pair in free conflict the other way round does
+/// the same to every store and to all flat arrays that have each cell which the other list
+/// accesses. Each legal list is such a list.
 pub fn relaxed_does_same()
     ensures store { (old new : List Element) → IsRelaxed old new
         → (store : Store) → done old store ≡ done new store }
@@ -49,8 +50,8 @@ pub fn sums_change_places()
         ≡ do_all execute (front ++ b ∷ a ∷ back) store }
 {}
 
-/// Where free pairs are left out, the least reversed pair is the least one in free conflict, if they are the pairs of pieces
-/// that accumulate into one array.
+/// Where free pairs are left out, the least reversed pair is the least one in free conflict, if
+/// they are the pairs of pieces that accumulate into one array.
 pub fn free_pairs_tell_relaxed()
     ensures { (old new : List Element) (free : List PiecePair) → AreFreePairs old free
         → pair_of_elements (reversed_but old new free) ≡ pair_of (relaxed_reversed old new) }

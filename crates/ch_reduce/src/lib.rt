@@ -1,5 +1,5 @@
-//! Sums in any order: which assignments accumulate, what may change places where accumulations may, and which pieces' elements
-//! may.
+//! Sums in any order: which assignments accumulate, what may change places where accumulations may,
+//! and which pieces' elements may.
 #![tactic(auto)]
 
 mod accumulation;

@@ -1,4 +1,5 @@
-//! The pairs of pieces of a space whose elements may change places, and the least reversed pair of the others.
+//! The pairs of pieces of a space whose elements may change places, and the least reversed pair of
+//! the others.
 
 ghost use Rattle.std.specs.Prelude.{◌≡◌, ◌≤◌, ◌++◌, ◌∷◌, [], ◌↔◌, if◌then◌else◌, length, map, drop, IfOk, OnOk};
 ghost use Rattle.ch_depends.specs.Depends.{pair_of};
@@ -56,8 +57,8 @@ fn push_pairs(
     Ok(())
 }
 
-/// The pairs of pieces, by their numbers, whose bodies both accumulate and write one array; a piece that accumulates is a pair
-/// with itself. `Err` where memory runs out.
+/// The pairs of pieces, by their numbers, whose bodies both accumulate and write one array; a piece
+/// that accumulates is a pair with itself. `Err` where memory runs out.
 ///
 /// Elements of such pieces may change places, since a wrapping sum is the same in any order.
 pub fn free_pairs(alloc: Global, space: &Space) -> Result<List<PiecePair>, AllocError>
@@ -75,8 +76,9 @@ pub fn free_pairs(alloc: Global, space: &Space) -> Result<List<PiecePair>, Alloc
     Ok(pairs)
 }
 
-/// The least pair of elements in free conflict that the new space has the other way round: that of the least first element, and
-/// then of the least second one. None exactly where there is none. `Err` where memory runs out.
+/// The least pair of elements in free conflict that the new space has the other way round: that of
+/// the least first element, and then of the least second one. None exactly where there is none.
+/// `Err` where memory runs out.
 pub fn reversed_sum(alloc: Global, old: &Space, new: &Space) -> Result<Option<Pair>, AllocError>
     requires kept { AreAmong old.now.list new.now.list }
     ensures { IfOk result (λ pair. pair ≡ pair_of (relaxed_reversed old.now.list new.now.list)) }

@@ -18,8 +18,8 @@ fn add_to_one(a: &Element, b: &Element) -> bool
     bodies_add_to_one(&a.body, &b.body)
 }
 
-/// The rule that two steps keep their order where they access one cell and one of them writes it, unless both add to cells
-/// of one array.
+/// The rule that two steps keep their order where they access one cell and one of them writes it,
+/// unless both add to cells of one array.
 #[derive(Clone, Copy, Debug)]
 pub struct FreeConflicts;
 
@@ -31,10 +31,12 @@ impl KeepOrder for FreeConflicts {
     }
 }
 
-/// Whether two timed lists have the same steps, each once, and no two of them in free conflict stand the other way round.
+/// Whether two timed lists have the same steps, each once, and no two of them in free conflict
+/// stand the other way round.
 ///
-/// Then both do the same to every store, and to all flat arrays that have each cell which they access. `Err` where memory
-/// runs out. The number of calls of `Timed::after` is at most about the third power of the lists' length.
+/// Then both do the same to every store, and to all flat arrays that have each cell which they
+/// access. `Err` where memory runs out. The number of calls of `Timed::after` is at most about the
+/// third power of the lists' length.
 pub fn same_sum<A: Timed, B: Timed>(alloc: Global, old: &A, new: &B) -> Result<bool, AllocError>
     ensures relaxed { IfOk result (λ t. IsTrue t ↔ IsRelaxed (A.list old.now) (B.list new.now)) }
     ensures store { IfOk result (λ t. IsTrue t → (store : Store)

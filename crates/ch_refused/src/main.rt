@@ -1,4 +1,5 @@
-//! Runs `eval` over each deck of a folder, in the order of their names, and prints what it answers to each.
+//! Runs `eval` over each deck of a folder, in the order of their names, and prints what it answers
+//! to each.
 //!
 //! The folder is the one that the program runs in, or the one that its first argument names.
 #![tactic(auto)]
@@ -9,7 +10,8 @@ use ch_run::still;
 use std::alloc::{AllocError, Global};
 use std::{env, fs, io};
 
-/// The most bytes that are kept of what `eval` writes: more than an accepted deck of this folder prints.
+/// The most bytes that are kept of what `eval` writes: more than an accepted deck of this folder
+/// prints.
 const ROOM: usize = 1 << 20;
 
 /// The names of the decks in the folder, in order.
@@ -26,7 +28,8 @@ fn deck_names(rt: &HostRuntime, folder: &str) -> io::Result<Vec<String>> {
     Ok(names)
 }
 
-/// What is printed of a deck: its refusal, `accepted` where it has none, or the status of a run that told neither.
+/// What is printed of a deck: its refusal, `accepted` where it has none, or the status of a run
+/// that told neither.
 fn answer(alloc: Global, deck: Vec<u8>) -> Result<String, AllocError> {
     let mut words = Vec::new(alloc);
     words.push(String::from_str(alloc, "eval")?)?;

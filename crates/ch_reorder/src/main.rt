@@ -1,9 +1,11 @@
-//! Reads each case of a folder, in the order of their names: a deck of one program, a line `%%`, and recipes, one a line. Prints
-//! what each recipe says of the program: its first refusal, by the cause or by the least reversed pair, or how many pieces and
-//! instances are left. The line `pairs` prints the dependences.
+//! Reads each case of a folder, in the order of their names: a deck of one program, a line `%%`,
+//! and recipes, one a line. Prints what each recipe says of the program: its first refusal, by the
+//! cause or by the least reversed pair, or how many pieces and instances are left. The line `pairs`
+//! prints the dependences.
 //!
-//! The folder is the one that the program runs in, or the one that its first argument names; a second argument says how often the
-//! legality of each command is asked for, which changes no output, so that a run can be timed.
+//! The folder is the one that the program runs in, or the one that its first argument names; a
+//! second argument says how often the legality of each command is asked for, which changes no
+//! output, so that a run can be timed.
 #![tactic(auto)]
 
 mod plain;

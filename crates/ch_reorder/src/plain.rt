@@ -1,4 +1,5 @@
-//! Each command's list by its definition, element by element: slow, plain, and apart from the code of the commands.
+//! Each command's list by its definition, element by element: slow, plain, and apart from the code
+//! of the commands.
 
 use crate::recipe::Command;
 use crate::walk::place;
@@ -100,7 +101,8 @@ fn share(level: i64, ours: &[i64], theirs: &[i64]) -> bool {
     }
 }
 
-/// Whether both are the places of pieces in one body: those behind the loop values before that level are the same.
+/// Whether both are the places of pieces in one body: those behind the loop values before that
+/// level are the same.
 fn beside(level: i64, ours: &[i64], theirs: &[i64]) -> bool {
     match usize::try_from(level) {
         Ok(level) if 1 <= level => {
@@ -478,7 +480,8 @@ fn close_up(alloc: Global, list: &mut [Plain]) -> Result<(), AllocError> {
     Ok(())
 }
 
-/// Whether the new list has the old elements at the vectors that the command's definition gives them.
+/// Whether the new list has the old elements at the vectors that the command's definition gives
+/// them.
 pub(crate) fn is_moved(
     alloc: Global,
     olds: &[Element],

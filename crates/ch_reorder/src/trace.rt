@@ -1,4 +1,5 @@
-//! The elements that generated code executes, found by walking it as its text reads: plain, and apart from the definition of a trace.
+//! The elements that generated code executes, found by walking it as its text reads: plain, and
+//! apart from the definition of a trace.
 
 use ch_affine::{Aff, System};
 use ch_code::{Bound, Code, Unit};
@@ -6,7 +7,8 @@ use ch_poly::{Room, has_point};
 use ch_timed::{Element, Identity, Label};
 use std::alloc::{AllocError, Global};
 
-/// The most steps of a walk. Code runs over whole boxes, so that of a program with few instances may take too many.
+/// The most steps of a walk. Code runs over whole boxes, so that of a program with few instances
+/// may take too many.
 const MOST_STEPS: u32 = 100_000;
 
 /// What is left to do.
@@ -181,7 +183,8 @@ impl<'a> Walk<'a> {
     }
 }
 
-/// Whether the code executes the elements, in order. Code that takes too many steps isn't walked to its end.
+/// Whether the code executes the elements, in order. Code that takes too many steps isn't walked to
+/// its end.
 pub(crate) fn executes(
     alloc: Global,
     unit: &Unit,

@@ -147,7 +147,8 @@ fn have_one_meaning(
     same_meaning(alloc, old, new)
 }
 
-/// The most elements of a list that is compared by `same_meaning` or `same_sum` too, whose time grows with the third power of that number.
+/// The most elements of a list that is compared by `same_meaning` or `same_sum` too, whose time
+/// grows with the third power of that number.
 const MOST_COMPARED: u64 = 64;
 
 /// What one command leaves: a space to go on with, or a refusal.
@@ -156,7 +157,8 @@ enum Outcome {
     Refused(Text),
 }
 
-/// A space that may stand for the one before it, or the pair that is reversed. Two other ways lead to the same answer.
+/// A space that may stand for the one before it, or the pair that is reversed. Two other ways lead
+/// to the same answer.
 fn compared(
     alloc: Global,
     number: u64,
@@ -195,8 +197,8 @@ fn is_executed(
     executes(alloc, &unit, elements)
 }
 
-/// Whether the new list is what the command's definition makes of the old one, its pieces have the counts that are kept, and its
-/// code executes it.
+/// Whether the new list is what the command's definition makes of the old one, its pieces have the
+/// counts that are kept, and its code executes it.
 fn is_defined(
     alloc: Global,
     nest: &Nest,

@@ -1,4 +1,5 @@
-//! The least reversed pair by going through all pairs of elements: slow, plain, and apart from the solver.
+//! The least reversed pair by going through all pairs of elements: slow, plain, and apart from the
+//! solver.
 
 use ch_affine::List;
 use ch_depends::Pair;
@@ -162,8 +163,9 @@ pub(crate) fn place(elements: &[Element], identity: &Identity) -> usize {
     elements.len()
 }
 
-/// Whether the pair is that of the walk: the first pair in the order of the old list that conflicts and that the new list has the
-/// other way round. Where sums are free, two elements that add to one array may change places.
+/// Whether the pair is that of the walk: the first pair in the order of the old list that conflicts
+/// and that the new list has the other way round. Where sums are free, two elements that add to one
+/// array may change places.
 pub(crate) fn agrees<A: Timed, B: Timed>(
     alloc: Global,
     old: &A,

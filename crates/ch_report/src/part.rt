@@ -3,7 +3,8 @@ use ch_affine::List;
 use ch_rank::Phase;
 use ch_script::Refusal;
 
-/// What a trial came to: a cost, with the client that measured it and the number of its call, or the refusal of its recipe.
+/// What a trial came to: a cost, with the client that measured it and the number of its call, or
+/// the refusal of its recipe.
 #[derive(Debug, Drop)]
 pub enum Found {
     Cost { client: u32, call: u32, cost: u64 },
@@ -37,8 +38,9 @@ pub struct BestLine {
     pub cost: u64,
 }
 
-/// What became of a session: the entries of its search in their order, how many steps the search made, the round that it came
-/// to, the places of its simplex in the order of their ranks, and the best point, where a point has a cost.
+/// What became of a session: the entries of its search in their order, how many steps the search
+/// made, the round that it came to, the places of its simplex in the order of their ranks, and the
+/// best point, where a point has a cost.
 #[derive(Debug, Drop)]
 pub struct SessionPart {
     pub entries: List<EntryLine>,

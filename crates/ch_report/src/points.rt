@@ -15,7 +15,8 @@ use std::alloc::{AllocError, Global};
 
 /// Adds values, each behind a comma.
 fn put_more(out: &mut Text, values: &[i64]) -> Result<(), AllocError>
-    ensures { OnOk result (out.new ≡ out.old ++ flat_map (behind (codes ",") integer_text) values.now) }
+    ensures { OnOk result (out.new
+        ≡ out.old ++ flat_map (behind (codes ",") integer_text) values.now) }
 {
     for value in values {
         out.append(b",")?;

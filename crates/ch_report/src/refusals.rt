@@ -75,7 +75,8 @@ fn put_pair(
     second: &Identity,
     cell: &Cell,
 ) -> Result<(), AllocError>
-    ensures { OnOk result (out.new ≡ out.old ++ illegal_text arrays.now step first.now second.now cell.now) }
+    ensures { OnOk result (out.new
+        ≡ out.old ++ illegal_text arrays.now step first.now second.now cell.now) }
 {
     out.append(b"illegal at ")?;
     put_number(out, u64::from(step))?;
@@ -87,8 +88,8 @@ fn put_pair(
     put_owned(out, arrays, cell)
 }
 
-/// Adds a refusal of a recipe at a program with these arrays: `illegal at 1: S0(1,1) before S0(2,0) on A[1][1]`, or
-/// `shape at 2: C4 65`.
+/// Adds a refusal of a recipe at a program with these arrays: `illegal at 1: S0(1,1) before S0(2,0)
+/// on A[1][1]`, or `shape at 2: C4 65`.
 pub fn put_refusal(
     out: &mut Text,
     arrays: &[ArrayDecl],

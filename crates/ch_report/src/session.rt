@@ -26,7 +26,8 @@ pub struct Tuning<'a> {
     pub name: &'a Text,
     /// The values of the recipe's parameters.
     pub grid: &'a Grid,
-    /// The conditions between the parameters: a point is admissible where each of these forms is at least 0 at its values.
+    /// The conditions between the parameters: a point is admissible where each of these forms is at
+    /// least 0 at its values.
     pub conditions: &'a [Aff],
     /// The arrays of the program.
     pub arrays: &'a [ArrayDecl],
@@ -58,7 +59,8 @@ fn put_entry(
     entry: &EntryLine,
 ) -> Result<(), AllocError>
     requires { IsTrue (is_point (sizes tuning.now.grid.now.params) entry.now.point) }
-    ensures { OnOk result (out.new ≡ out.old ++ entry_line tuning.now.grid.now.params tuning.now.arrays.now k entry.now) }
+    ensures { OnOk result (out.new
+        ≡ out.old ++ entry_line tuning.now.grid.now.params tuning.now.arrays.now k entry.now) }
 {
     out.append(b"entry ")?;
     put_number(out, k)?;
@@ -78,8 +80,10 @@ fn put_entries(
     tuning: &Tuning<'_>,
     entries: &[EntryLine],
 ) -> Result<(), AllocError>
-    requires { IsTrue (list_all (λ e. is_point (sizes tuning.now.grid.now.params) e.point) entries.now) }
-    ensures { OnOk result (out.new ≡ out.old ++ numbered (entry_line tuning.now.grid.now.params tuning.now.arrays.now) 1 entries.now) }
+    requires { IsTrue (list_all (λ e.
+        is_point (sizes tuning.now.grid.now.params) e.point) entries.now) }
+    ensures { OnOk result (out.new
+        ≡ out.old ++ numbered (entry_line tuning.now.grid.now.params tuning.now.arrays.now) 1 entries.now) }
 {
     for i in 0..entries.len() {
         put_entry(alloc, out, tuning, i as u64 + 1, &entries[i])?;
@@ -164,7 +168,8 @@ fn put_used(
     tuning: &Tuning<'_>,
     point: &[u32],
 ) -> Result<(), AllocError>
-    requires conditions { All (λ row. length row.coefs ≡ length tuning.now.grid.now.params) tuning.now.conditions.now }
+    requires conditions { All (λ row. length row.coefs
+        ≡ length tuning.now.grid.now.params) tuning.now.conditions.now }
     requires point { IsTrue (is_point (sizes tuning.now.grid.now.params) point.now) }
     ensures { OnOk result (out.new
         ≡ out.old ++ used_text tuning.now.grid.now.params tuning.now.conditions.now point.now) }
@@ -181,7 +186,8 @@ fn put_best_point(
     tuning: &Tuning<'_>,
     best: &BestLine,
 ) -> Result<(), AllocError>
-    requires conditions { All (λ row. length row.coefs ≡ length tuning.now.grid.now.params) tuning.now.conditions.now }
+    requires conditions { All (λ row. length row.coefs
+        ≡ length tuning.now.grid.now.params) tuning.now.conditions.now }
     requires point { IsTrue (is_point (sizes tuning.now.grid.now.params) best.now.point) }
     ensures { OnOk result (out.new
         ≡ out.old ++ point_line tuning.now.grid.now.params tuning.now.conditions.now best.now) }
@@ -202,7 +208,8 @@ fn put_best(
     tuning: &Tuning<'_>,
     best: &Option<BestLine>,
 ) -> Result<(), AllocError>
-    requires conditions { All (λ row. length row.coefs ≡ length tuning.now.grid.now.params) tuning.now.conditions.now }
+    requires conditions { All (λ row. length row.coefs
+        ≡ length tuning.now.grid.now.params) tuning.now.conditions.now }
     requires point { IsTrue (best_inside tuning.now.grid.now.params best.now) }
     ensures { OnOk result (out.new
         ≡ out.old ++ best_line tuning.now.grid.now.params tuning.now.conditions.now best.now) }
@@ -234,8 +241,9 @@ fn put_head(
     out.append(b"\n")
 }
 
-/// Adds the lines of a session: its name with the number of entries, the steps and the round of its search; each entry; each
-/// rank; and the best point. Each point has an index of the grid for each parameter, and each condition a coefficient.
+/// Adds the lines of a session: its name with the number of entries, the steps and the round of its
+/// search; each entry; each rank; and the best point. Each point has an index of the grid for each
+/// parameter, and each condition a coefficient.
 #[tactic(auto, unfolding(crate::specs::Sessions::session_lines))]
 pub fn put_session(
     alloc: Global,
@@ -243,7 +251,8 @@ pub fn put_session(
     tuning: &Tuning<'_>,
     part: &SessionPart,
 ) -> Result<(), AllocError>
-    requires conditions { All (λ row. length row.coefs ≡ length tuning.now.grid.now.params) tuning.now.conditions.now }
+    requires conditions { All (λ row. length row.coefs
+        ≡ length tuning.now.grid.now.params) tuning.now.conditions.now }
     requires inside { IsTrue (is_inside tuning.now.grid.now.params part.now) }
     ensures { OnOk result (out.new ≡ out.old ++ session_lines tuning.now part.now) }
 {

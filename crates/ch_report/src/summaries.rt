@@ -76,7 +76,8 @@ fn best_found(alloc: Global, search: &Search) -> Result<Option<BestLine>, AllocE
     }
 }
 
-/// What a search came to, with the lines of its entries: its steps, its round, the places of its simplex and its best point.
+/// What a search came to, with the lines of its entries: its steps, its round, the places of its
+/// simplex and its best point.
 pub fn summary(
     alloc: Global,
     search: &Search,

@@ -41,12 +41,15 @@ fn carried_out<S: Source, K: Sink>(
 ) -> u8
     ensures known { result ≤ 5 }
     ensures words { result ≢ 2 }
-    ensures answer { result ≤ 1 → IfSome (S.left source.old) (λ bytes. Answers command bytes (K.taken sink.old) (K.taken sink.new) result) }
-    ensures read { result ≤ 1 → IfSome (S.left source.old) (λ bytes. S.left source.new ≡ Some (drop most_read bytes)) }
+    ensures answer { result ≤ 1 → IfSome (S.left source.old) (λ bytes.
+        Answers command bytes (K.taken sink.old) (K.taken sink.new) result) }
+    ensures read { result ≤ 1 → IfSome (S.left source.old) (λ bytes.
+        S.left source.new ≡ Some (drop most_read bytes)) }
     ensures read_fault { result ≡ 3 → HasRisen (S.faults source.old) (S.faults source.new) }
     ensures read_nothing { result ≡ 3 → K.taken sink.new ≡ K.taken sink.old }
     ensures write_fault { result ≡ 4 → HasRisen (K.faults sink.old) (K.faults sink.new) }
-    ensures write_part { result ≡ 4 → IfSome (S.left source.old) (λ bytes. AnswersInPart command bytes (K.taken sink.old) (K.taken sink.new)) }
+    ensures write_part { result ≡ 4 → IfSome (S.left source.old) (λ bytes.
+        AnswersInPart command bytes (K.taken sink.old) (K.taken sink.new)) }
     ensures memory { result ≡ 5 → K.taken sink.new ≡ K.taken sink.old }
 {
     match read_input(alloc, source, MOST_READ) {
@@ -62,11 +65,13 @@ fn carried_out<S: Source, K: Sink>(
     }
 }
 
-/// Runs every command but `run`: reads the input, writes the text and answers a status. It waits for nobody.
+/// Runs every command but `run`: reads the input, writes the text and answers a status. It waits
+/// for nobody.
 ///
-/// `words` are those after the program's name. The status is 0 where the text was written, 1 where the refusal of the
-/// input was, 2 where the words are none of a command (the usage line was written, and nothing was read), 3 where a read
-/// failed, 4 where a write failed, and 5 where there was not enough memory.
+/// `words` are those after the program's name. The status is 0 where the text was written, 1 where
+/// the refusal of the input was, 2 where the words are none of a command (the usage line was
+/// written, and nothing was read), 3 where a read failed, 4 where a write failed, and 5 where there
+/// was not enough memory.
 #[tactic(auto, using(crate::proofs::Conducts::told_usage, crate::proofs::Conducts::carried))]
 pub fn still<S: Source, K: Sink>(
     alloc: Global,

@@ -55,7 +55,8 @@ fn put_piece_text(
     first: &Identity,
     last: &Identity,
 ) -> Result<(), AllocError>
-    ensures { OnOk result (out.new ≡ out.old ++ piece_text number label (map pos places.now) count first.now last.now) }
+    ensures { OnOk result (out.new
+        ≡ out.old ++ piece_text number label (map pos places.now) count first.now last.now) }
 {
     out.append(b"piece ")?;
     put_number(out, u64::from(number))?;

@@ -13,7 +13,8 @@ fn words_of(alloc: Global, words: &[&str]) -> Result<Vec<String>, AllocError> {
     Ok(all)
 }
 
-/// What a command answers to a deck that is read in pieces of five bytes and written in pieces of seven.
+/// What a command answers to a deck that is read in pieces of five bytes and written in pieces of
+/// seven.
 fn answer(alloc: Global, command: &str, deck: &[u8]) -> Result<(u8, Vec<u8>), AllocError> {
     let words = words_of(alloc, &[command])?;
     let mut source = MemSource::new(deck.to_vec(alloc)?, 5, Vec::new(alloc));

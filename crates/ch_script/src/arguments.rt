@@ -18,7 +18,8 @@ pub(crate) fn arg<'a>(
     scope: &Scope<'_, '_>,
     tokens: &'a [Token],
 ) -> Result<(Arg, &'a [Token]), ParseError>
-    ensures { Gives (λ r. (r.0, r.1.now)) result (arg_at scope.now.bytes.now scope.now.params.now tokens.now) }
+    ensures { Gives (λ r.
+        (r.0, r.1.now)) result (arg_at scope.now.bytes.now scope.now.params.now tokens.now) }
 {
     match seen(scope.bytes, tokens) {
         Look::Name => match scope.param(text_at(scope.bytes, tokens)) {
@@ -38,7 +39,8 @@ pub(crate) fn arg_comma<'a>(
     scope: &Scope<'_, '_>,
     tokens: &'a [Token],
 ) -> Result<(Arg, &'a [Token]), ParseError>
-    ensures { Gives (λ r. (r.0, r.1.now)) result (arg_comma_at scope.now.bytes.now scope.now.params.now tokens.now) }
+    ensures { Gives (λ r.
+        (r.0, r.1.now)) result (arg_comma_at scope.now.bytes.now scope.now.params.now tokens.now) }
 {
     let (arg, rest) = arg(scope, tokens)?;
     let rest = sign(scope.bytes, Code2::R1, Sign::Comma, rest)?;
@@ -84,7 +86,8 @@ pub(crate) fn list<'a>(
     scope: &Scope<'_, '_>,
     tokens: &'a [Token],
 ) -> Result<(List<Arg>, &'a [Token]), ParseError>
-    ensures { Gives (λ r. (r.0, r.1.now)) result (list_at scope.now.bytes.now scope.now.params.now tokens.now) }
+    ensures { Gives (λ r.
+        (r.0, r.1.now)) result (list_at scope.now.bytes.now scope.now.params.now tokens.now) }
 {
     let rest = sign(scope.bytes, Code2::R1, Sign::LeftBracket, tokens)?;
     let (first, rest) = arg(scope, rest)?;
@@ -101,7 +104,8 @@ pub(crate) fn list_comma<'a>(
     scope: &Scope<'_, '_>,
     tokens: &'a [Token],
 ) -> Result<(List<Arg>, &'a [Token]), ParseError>
-    ensures { Gives (λ r. (r.0, r.1.now)) result (list_comma_at scope.now.bytes.now scope.now.params.now tokens.now) }
+    ensures { Gives (λ r.
+        (r.0, r.1.now)) result (list_comma_at scope.now.bytes.now scope.now.params.now tokens.now) }
 {
     let (args, rest) = list(scope, tokens)?;
     let rest = sign(scope.bytes, Code2::R1, Sign::Comma, rest)?;

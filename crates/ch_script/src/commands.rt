@@ -20,7 +20,8 @@ fn permute<'a>(
     scope: &Scope<'_, '_>,
     tokens: &'a [Token],
 ) -> Result<(Command, &'a [Token]), ParseError>
-    ensures { Gives (λ r. (r.0, r.1.now)) result (permute_at scope.now.bytes.now scope.now.params.now tokens.now) }
+    ensures { Gives (λ r.
+        (r.0, r.1.now)) result (permute_at scope.now.bytes.now scope.now.params.now tokens.now) }
 {
     let (statement, rest) = arg_comma(scope, tokens)?;
     let (order, rest) = list(scope, rest)?;
@@ -33,7 +34,8 @@ fn skew<'a>(
     scope: &Scope<'_, '_>,
     tokens: &'a [Token],
 ) -> Result<(Command, &'a [Token]), ParseError>
-    ensures { Gives (λ r. (r.0, r.1.now)) result (skew_at scope.now.bytes.now scope.now.params.now tokens.now) }
+    ensures { Gives (λ r.
+        (r.0, r.1.now)) result (skew_at scope.now.bytes.now scope.now.params.now tokens.now) }
 {
     let (statements, rest) = list_comma(scope, tokens)?;
     let (level, rest) = arg_comma(scope, rest)?;
@@ -51,7 +53,8 @@ fn shift<'a>(
     scope: &Scope<'_, '_>,
     tokens: &'a [Token],
 ) -> Result<(Command, &'a [Token]), ParseError>
-    ensures { Gives (λ r. (r.0, r.1.now)) result (shift_at scope.now.bytes.now scope.now.params.now tokens.now) }
+    ensures { Gives (λ r.
+        (r.0, r.1.now)) result (shift_at scope.now.bytes.now scope.now.params.now tokens.now) }
 {
     let (statements, rest) = list_comma(scope, tokens)?;
     let (level, rest) = arg_comma(scope, rest)?;
@@ -69,7 +72,8 @@ fn tile<'a>(
     scope: &Scope<'_, '_>,
     tokens: &'a [Token],
 ) -> Result<(Command, &'a [Token]), ParseError>
-    ensures { Gives (λ r. (r.0, r.1.now)) result (tile_at scope.now.bytes.now scope.now.params.now tokens.now) }
+    ensures { Gives (λ r.
+        (r.0, r.1.now)) result (tile_at scope.now.bytes.now scope.now.params.now tokens.now) }
 {
     let (statement, rest) = arg_comma(scope, tokens)?;
     let (level, rest) = arg_comma(scope, rest)?;
@@ -89,7 +93,8 @@ fn unroll<'a>(
     scope: &Scope<'_, '_>,
     tokens: &'a [Token],
 ) -> Result<(Command, &'a [Token]), ParseError>
-    ensures { Gives (λ r. (r.0, r.1.now)) result (unroll_at scope.now.bytes.now scope.now.params.now tokens.now) }
+    ensures { Gives (λ r.
+        (r.0, r.1.now)) result (unroll_at scope.now.bytes.now scope.now.params.now tokens.now) }
 {
     let (statement, rest) = arg_comma(scope, tokens)?;
     let (level, rest) = arg_comma(scope, rest)?;
@@ -107,7 +112,8 @@ fn split<'a>(
     scope: &Scope<'_, '_>,
     tokens: &'a [Token],
 ) -> Result<(Command, &'a [Token]), ParseError>
-    ensures { Gives (λ r. (r.0, r.1.now)) result (split_at scope.now.bytes.now scope.now.params.now tokens.now) }
+    ensures { Gives (λ r.
+        (r.0, r.1.now)) result (split_at scope.now.bytes.now scope.now.params.now tokens.now) }
 {
     let (statement, rest) = arg_comma(scope, tokens)?;
     let (level, rest) = arg_comma(scope, rest)?;
@@ -125,7 +131,8 @@ fn peel<'a>(
     scope: &Scope<'_, '_>,
     tokens: &'a [Token],
 ) -> Result<(Command, &'a [Token]), ParseError>
-    ensures { Gives (λ r. (r.0, r.1.now)) result (peel_at scope.now.bytes.now scope.now.params.now tokens.now) }
+    ensures { Gives (λ r.
+        (r.0, r.1.now)) result (peel_at scope.now.bytes.now scope.now.params.now tokens.now) }
 {
     let (statement, rest) = arg_comma(scope, tokens)?;
     let (level, rest) = arg_comma(scope, rest)?;
@@ -143,7 +150,8 @@ fn fuse<'a>(
     scope: &Scope<'_, '_>,
     tokens: &'a [Token],
 ) -> Result<(Command, &'a [Token]), ParseError>
-    ensures { Gives (λ r. (r.0, r.1.now)) result (fuse_at scope.now.bytes.now scope.now.params.now tokens.now) }
+    ensures { Gives (λ r.
+        (r.0, r.1.now)) result (fuse_at scope.now.bytes.now scope.now.params.now tokens.now) }
 {
     let (statements, rest) = list_comma(scope, tokens)?;
     let (level, rest) = arg(scope, rest)?;
@@ -156,7 +164,8 @@ fn distribute<'a>(
     scope: &Scope<'_, '_>,
     tokens: &'a [Token],
 ) -> Result<(Command, &'a [Token]), ParseError>
-    ensures { Gives (λ r. (r.0, r.1.now)) result (distribute_at scope.now.bytes.now scope.now.params.now tokens.now) }
+    ensures { Gives (λ r.
+        (r.0, r.1.now)) result (distribute_at scope.now.bytes.now scope.now.params.now tokens.now) }
 {
     let (statements, rest) = list_comma(scope, tokens)?;
     let (level, rest) = arg(scope, rest)?;
@@ -169,7 +178,8 @@ fn datacopy<'a>(
     scope: &Scope<'_, '_>,
     tokens: &'a [Token],
 ) -> Result<(Command, &'a [Token]), ParseError>
-    ensures { Gives (λ r. (r.0, r.1.now)) result (datacopy_at scope.now.bytes.now scope.now.params.now tokens.now) }
+    ensures { Gives (λ r.
+        (r.0, r.1.now)) result (datacopy_at scope.now.bytes.now scope.now.params.now tokens.now) }
 {
     let (statement, rest) = arg_comma(scope, tokens)?;
     let (level, rest) = arg_comma(scope, rest)?;
@@ -189,7 +199,8 @@ fn arguments<'a>(
     word: Word,
     tokens: &'a [Token],
 ) -> Result<(Command, &'a [Token]), ParseError>
-    ensures { Gives (λ r. (r.0, r.1.now)) result (arguments_at word scope.now.bytes.now scope.now.params.now tokens.now) }
+    ensures { Gives (λ r.
+        (r.0, r.1.now)) result (arguments_at word scope.now.bytes.now scope.now.params.now tokens.now) }
 {
     match word {
         Word::Permute => permute(scope, tokens),
@@ -263,7 +274,8 @@ pub(crate) fn commands<'a>(
     scope: &Scope<'_, '_>,
     tokens: &'a [Token],
 ) -> Result<(List<Command>, &'a [Token]), ParseError>
-    ensures { Gives (λ r. (r.0, r.1.now)) result (commands_at scope.now.bytes.now scope.now.params.now tokens.now) }
+    ensures { Gives (λ r.
+        (r.0, r.1.now)) result (commands_at scope.now.bytes.now scope.now.params.now tokens.now) }
 {
     let none = List::new(scope.alloc);
     repeat(&MoreCommands { scope }, MOST_COMMANDS + 1, none, tokens)
@@ -331,7 +343,8 @@ pub(crate) fn conditions<'a>(
     scope: &Scope<'_, '_>,
     tokens: &'a [Token],
 ) -> Result<(List<Cond>, &'a [Token]), ParseError>
-    ensures { Gives (λ r. (r.0, r.1.now)) result (requires_at scope.now.bytes.now scope.now.params.now tokens.now) }
+    ensures { Gives (λ r.
+        (r.0, r.1.now)) result (requires_at scope.now.bytes.now scope.now.params.now tokens.now) }
 {
     let none = List::new(scope.alloc);
     repeat(&MoreConditions { scope }, MOST_CONDITIONS + 1, none, tokens)

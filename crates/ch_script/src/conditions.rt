@@ -64,7 +64,8 @@ fn scaled<'a>(
     factor: u32,
     tokens: &'a [Token],
 ) -> Result<(Term, &'a [Token]), ParseError>
-    ensures { Gives (λ r. (r.0, r.1.now)) result (scaled_at scope.now.bytes.now purpose scope.now.params.now negative factor tokens.now) }
+    ensures { Gives (λ r.
+        (r.0, r.1.now)) result (scaled_at scope.now.bytes.now purpose scope.now.params.now negative factor tokens.now) }
 {
     let (text, rest) = name(scope.bytes, Code2::R1, tokens)?;
     let named = named_scaled(scope, purpose, text);
@@ -79,7 +80,8 @@ fn term<'a>(
     negative: bool,
     tokens: &'a [Token],
 ) -> Result<(Term, &'a [Token]), ParseError>
-    ensures { Gives (λ r. (r.0, r.1.now)) result (term_at scope.now.bytes.now purpose scope.now.params.now negative tokens.now) }
+    ensures { Gives (λ r.
+        (r.0, r.1.now)) result (term_at scope.now.bytes.now purpose scope.now.params.now negative tokens.now) }
 {
     let at = place(scope.bytes, tokens);
     let rest = after(tokens);
@@ -140,7 +142,8 @@ fn first_term<'a>(
     purpose: Purpose,
     tokens: &'a [Token],
 ) -> Result<(Term, &'a [Token]), ParseError>
-    ensures { Gives (λ r. (r.0, r.1.now)) result (first_term_at scope.now.bytes.now purpose scope.now.params.now tokens.now) }
+    ensures { Gives (λ r.
+        (r.0, r.1.now)) result (first_term_at scope.now.bytes.now purpose scope.now.params.now tokens.now) }
 {
     if next_is(scope.bytes, Sign::Minus, tokens) {
         term(scope, purpose, true, after(tokens))
@@ -156,7 +159,8 @@ fn sum<'a>(
     purpose: Purpose,
     tokens: &'a [Token],
 ) -> Result<(List<Term>, &'a [Token]), ParseError>
-    ensures { Gives (λ r. (r.0, r.1.now)) result (sum_at scope.now.bytes.now purpose scope.now.params.now tokens.now) }
+    ensures { Gives (λ r.
+        (r.0, r.1.now)) result (sum_at scope.now.bytes.now purpose scope.now.params.now tokens.now) }
 {
     let (first, rest) = first_term(scope, purpose, tokens)?;
     let mut terms = List::new(scope.alloc);
@@ -184,7 +188,8 @@ pub(crate) fn condition<'a>(
     purpose: Purpose,
     tokens: &'a [Token],
 ) -> Result<(Cond, &'a [Token]), ParseError>
-    ensures { Gives (λ r. (r.0, r.1.now)) result (condition_at scope.now.bytes.now purpose scope.now.params.now tokens.now) }
+    ensures { Gives (λ r.
+        (r.0, r.1.now)) result (condition_at scope.now.bytes.now purpose scope.now.params.now tokens.now) }
 {
     let (left, rest) = sum(scope, purpose, tokens)?;
     let (relation, rest) = relation_if(

@@ -92,7 +92,8 @@ fn param<'a>(
     params: List<Text>,
     tokens: &'a [Token],
 ) -> Result<(List<Text>, &'a [Token]), ParseError>
-    ensures exact { Gives (λ r. (r.0, r.1.now)) result (param_at source.now.bytes.now params tokens.now) }
+    ensures exact { Gives (λ r.
+        (r.0, r.1.now)) result (param_at source.now.bytes.now params tokens.now) }
     ensures few { IfOk result (λ r. length r.0 ≤ 6) }
 {
     let mut params = params;

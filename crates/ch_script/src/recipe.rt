@@ -148,7 +148,8 @@ impl Recipe {
         conditions: List<Cond>,
         commands: List<Command>,
     ) -> Option<Recipe>
-        ensures fits { IsSome result ↔ IsTrue (is_recipe (recipe_of name params conditions commands)) }
+        ensures fits { IsSome result
+            ↔ IsTrue (is_recipe (recipe_of name params conditions commands)) }
         ensures value { IfSome result (λ r. r ≡ recipe_of name params conditions commands) }
     {
         let are_few = params.len() <= MOST_PARAMS

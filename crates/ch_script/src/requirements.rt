@@ -109,7 +109,8 @@ fn weights(
 ) -> Result<List<i64>, AllocError>
     requires more { length more.now ≤ 2 ^ 20 }
     requires less { length less.now ≤ 2 ^ 20 }
-    ensures exact { IfOk result (λ cs. cs ≡ map (weight_between more.now less.now) (range_with_len 0 params)) }
+    ensures exact { IfOk result (λ cs.
+        cs ≡ map (weight_between more.now less.now) (range_with_len 0 params)) }
     ensures count { IfOk result (λ cs. length cs ≡ params) }
     ensures small { IfOk result (λ cs. All (IsAtMost (2 ^ 60)) cs) }
 {
@@ -141,7 +142,8 @@ fn excess(
     Ok(Aff { coefs, constant })
 }
 
-/// The form over the values of so many parameters that is at least 0 exactly where a condition between them holds.
+/// The form over the values of so many parameters that is at least 0 exactly where a condition
+/// between them holds.
 #[tactic(auto, using(crate::proofs::RequirementsFit::few_left, crate::proofs::RequirementsFit::few_right))]
 pub fn requirement_of(alloc: Global, cond: &Cond, params: u32) -> Result<Aff, AllocError>
     requires params { params ≤ 6 }

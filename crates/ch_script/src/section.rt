@@ -36,7 +36,8 @@ fn read_section<'a>(
     source: &Source<'_>,
     tokens: &'a [Token],
 ) -> Result<(Parts, &'a [Token]), ParseError>
-    ensures exact { Gives (λ r. (recipe_of r.0.name r.0.params r.0.conditions r.0.commands, r.1.now)) result (section_at source.now.bytes.now tokens.now) }
+    ensures exact { Gives (λ r.
+        (recipe_of r.0.name r.0.params r.0.conditions r.0.commands, r.1.now)) result (section_at source.now.bytes.now tokens.now) }
 {
     let bytes = source.bytes;
     let rest = keyword(bytes, Code2::R1, Keyword::Recipe, tokens)?;
@@ -72,8 +73,10 @@ fn section<'a>(
     requires short { length source.now.bytes.now ≤ 2 ^ 20 }
     requires cut { IsCut source.now.bytes.now 0 tokens.now }
     requires from { from ≤ length tokens.now }
-    ensures exact { Gives (λ r. (recipe_of r.0.name r.0.params r.0.conditions r.0.commands, r.1.now)) result (section_at source.now.bytes.now (drop from tokens.now)) }
-    ensures recipe { IfOk result (λ r. IsTrue (is_recipe (recipe_of r.0.name r.0.params r.0.conditions r.0.commands))) }
+    ensures exact { Gives (λ r.
+        (recipe_of r.0.name r.0.params r.0.conditions r.0.commands, r.1.now)) result (section_at source.now.bytes.now (drop from tokens.now)) }
+    ensures recipe { IfOk result (λ r.
+        IsTrue (is_recipe (recipe_of r.0.name r.0.params r.0.conditions r.0.commands))) }
     ensures name { IfOk result (λ r. IsTrue (is_name r.0.name)) }
     ensures taken { IfOk result (λ r. length r.1.now + 1 ≤ length tokens.now - from) }
     ensures place { IfErr result (λ e. IsWithin (length source.now.bytes.now) e) }

@@ -1,4 +1,5 @@
-//! What a text is read as. The table of `ch_recipe_texts` has a text for each refusal and each limit.
+//! What a text is read as. The table of `ch_recipe_texts` has a text for each refusal and each
+//! limit.
 
 use crate::{Arg, Command, Of, ParsedRecipe, Relation, Term, parse_recipe};
 use ch_lex::{ParseError, tokens};

@@ -137,7 +137,8 @@ fn constant_between(values: &[i64], more: &[Term], less: &[Term], by: i64) -> i6
 fn coefs(alloc: Global, levels: u32, more: &[Term], less: &[Term]) -> Result<List<i64>, AllocError>
     requires more { length more.now ≤ 2 ^ 20 }
     requires less { length less.now ≤ 2 ^ 20 }
-    ensures exact { IfOk result (λ cs. cs ≡ map (coef_between more.now less.now) (levels_from levels 1)) }
+    ensures exact { IfOk result (λ cs.
+        cs ≡ map (coef_between more.now less.now) (levels_from levels 1)) }
     ensures count { IfOk result (λ cs. length cs ≡ levels) }
     ensures small { IfOk result (λ cs. All (IsAtMost (2 ^ 60)) cs) }
 {

@@ -31,7 +31,8 @@ pub(crate) fn put_arg(out: &mut Text, params: &[Text], arg: Arg) -> Result<(), A
 
 /// Adds arguments, each behind a comma.
 fn put_more(out: &mut Text, params: &[Text], args: &[Arg]) -> Result<(), AllocError>
-    ensures { OnOk result (out.new ≡ out.old ++ flat_map (behind (codes ", ") (arg_text params.now)) args.now) }
+    ensures { OnOk result (out.new
+        ≡ out.old ++ flat_map (behind (codes ", ") (arg_text params.now)) args.now) }
 {
     for arg in args {
         out.append(b", ")?;
@@ -42,7 +43,8 @@ fn put_more(out: &mut Text, params: &[Text], args: &[Arg]) -> Result<(), AllocEr
 
 /// Adds arguments with commas between them.
 fn put_separated(out: &mut Text, params: &[Text], args: &[Arg]) -> Result<(), AllocError>
-    ensures { OnOk result (out.new ≡ out.old ++ separated (codes ", ") (arg_text params.now) args.now) }
+    ensures { OnOk result (out.new
+        ≡ out.old ++ separated (codes ", ") (arg_text params.now) args.now) }
 {
     let Some((first, rest)) = args.split_first() else {
         return Ok(());

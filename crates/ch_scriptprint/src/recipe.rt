@@ -75,12 +75,13 @@ fn printed(alloc: Global, recipe: &Recipe) -> Result<Text, AllocError>
 /// The text of a recipe: its head, a line for each condition and each command, and its closing
 /// brace.
 ///
-/// Where the recipe can be written in the language (its names are names of the language, of which no
-/// two parameters share one, its numbers are numbers of the language, and no list or sum is empty),
-/// the text is read as the same recipe again.
+/// Where the recipe can be written in the language (its names are names of the language, of which
+/// no two parameters share one, its numbers are numbers of the language, and no list or sum is
+/// empty), the text is read as the same recipe again.
 pub fn print_recipe(alloc: Global, recipe: &Recipe) -> Result<Text, AllocError>
     ensures text { IfOk result (λ text. text ≡ recipe_text recipe.now) }
-    ensures reads { IsTrue (is_printable recipe.now) → IfOk result (λ text. IsReadAs text recipe.now) }
+    ensures reads { IsTrue (is_printable recipe.now) → IfOk result (λ text.
+        IsReadAs text recipe.now) }
 {
     recipe.known();
     printed(alloc, recipe)

@@ -24,7 +24,8 @@ pub fn trials_are_claimed_once()
         → OneClaimant history }
 {}
 
-/// A trial that a client holds, or that a builder claimed, stays so until an event of that client's or builder's own seat.
+/// A trial that a client holds, or that a builder claimed, stays so until an event of that client's
+/// or builder's own seat.
 pub fn leases_and_claims_stay()
     ensures held { (theme : Theme) (history more : List Event) (client trial : ℕ)
         → is_legal theme (history ++ more) ≡ true → NoneBy client more
@@ -36,8 +37,9 @@ pub fn leases_and_claims_stay()
         → is_claimed_by theme (history ++ more) builder trial ≡ true }
 {}
 
-/// In a legal history a client holds the trial that its seat's last event fetched, and a builder has claimed the one that its
-/// seat's last event claimed. So neither is refused what it does next with it.
+/// In a legal history a client holds the trial that its seat's last event fetched, and a builder
+/// has claimed the one that its seat's last event claimed. So neither is refused what it does next
+/// with it.
 pub fn last_events_decide()
     ensures held { (theme : Theme) (history : List Event) (client trial version : ℕ)
         → is_legal theme history ≡ true
@@ -55,8 +57,9 @@ pub fn clients_hold_one_trial()
         → OneLease theme history }
 {}
 
-/// In a legal history each trial that is named is below the number of the grid's points, and there are no more claims than
-/// points: so a builder that has two turns for each point can build them all.
+/// In a legal history each trial that is named is below the number of the grid's points, and there
+/// are no more claims than points: so a builder that has two turns for each point can build them
+/// all.
 pub fn trials_are_few()
     ensures below { (theme : Theme) (history : List Event) → is_legal theme history ≡ true
         → AllBelow (count (sizes theme.grid)) history }

@@ -166,7 +166,8 @@ impl<V: Made + Drop> Session<V> {
         });
     }
 
-    /// How much has come of the session: good builds, versions, leaves, and reports that leave their trial pending.
+    /// How much has come of the session: good builds, versions, leaves, and reports that leave
+    /// their trial pending.
     pub fn news(&self) -> u64
         ensures { result ≡ news self.now.events }
     {
@@ -241,8 +242,8 @@ impl<V: Made + Drop> Session<V> {
         self.events.push_reserved(Event::Leave { client, trial });
     }
 
-    /// Leases a trial to the client, or gives it the current version where it holds none and none is free. It takes the
-    /// memory that the report or the leave will need.
+    /// Leases a trial to the client, or gives it the current version where it holds none and none
+    /// is free. It takes the memory that the report or the leave will need.
     pub fn fetch(&mut self, _alloc: Global, client: u32) -> Result<Fetched<V>, AllocError>
         ensures reply { FetchReply V.made self.old client result }
         ensures after { self.new ≡ after self.old (added_by_fetch client result) }

@@ -1,6 +1,7 @@
-//! Prints the least point of each system that the standard input lists, one system a line: a name, the numbers of
-//! variables and rows, the low and the high of each variable's range, and each row's coefficients and constant. A word
-//! on the command line says how often each system is solved, which changes no output, so that a run can be timed.
+//! Prints the least point of each system that the standard input lists, one system a line: a name,
+//! the numbers of variables and rows, the low and the high of each variable's range, and each row's
+//! coefficients and constant. A word on the command line says how often each system is solved,
+//! which changes no output, so that a run can be timed.
 #![tactic(auto)]
 
 use anyhow::Result;

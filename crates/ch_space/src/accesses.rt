@@ -15,7 +15,8 @@ use ch_nest::{Access, ArrayDecl, Body, Expr, Item, Sub, access_inside, sub_value
 use ch_timed::Cell;
 use std::alloc::{AllocError, Global};
 
-/// An access that leaves its array: its number among all accesses of the nest, in the order of the text, and the cell that it names.
+/// An access that leaves its array: its number among all accesses of the nest, in the order of the
+/// text, and the cell that it names.
 #[derive(Debug, Drop)]
 pub(crate) struct Leaving {
     pub(crate) access: u32,
@@ -139,7 +140,8 @@ fn cell_at(alloc: Global, access: &Access, point: &[i64]) -> Result<Cell, AllocE
     })
 }
 
-/// The first access of a statement that leaves its array at a point, where its write has number `before`.
+/// The first access of a statement that leaves its array at a point, where its write has number
+/// `before`.
 #[tactic(auto, using(crate::proofs::Subscripted::text_fits))]
 pub(crate) fn first_leaving(
     alloc: Global,
@@ -158,7 +160,8 @@ pub(crate) fn first_leaving(
     leaving_from(alloc, arrays, accesses.as_slice(), point, before)
 }
 
-/// The first of these accesses that leaves its array at a point, where the first one has number `number`.
+/// The first of these accesses that leaves its array at a point, where the first one has number
+/// `number`.
 #[tactic(auto, using(crate::proofs::Subscripted::access_at, crate::proofs::Subscripted::near_small, crate::proofs::Subscripted::subs_at, crate::proofs::Subscripted::leaving_goes_on, crate::proofs::Subscripted::leaving_here))]
 fn leaving_from(
     alloc: Global,

@@ -1,5 +1,6 @@
-//! The next element of a space after a time vector. An instance comes after the vector where it differs from it first in a
-//! greater place or a greater loop value; the least such instance is the one that stays like the vector longest.
+//! The next element of a space after a time vector. An instance comes after the vector where it
+//! differs from it first in a greater place or a greater loop value; the least such instance is the
+//! one that stays like the vector longest.
 
 ghost use Rattle.std.specs.Prelude.{◌≡◌, ◌≤◌, ◌<◌, ◌+◌, ◌^◌, pos, [], ◌++◌, ◌∷◌, length, map, IfOk, MatchOption};
 ghost use Rattle.std.specs.List.{All};
@@ -117,8 +118,8 @@ pub fn woven(alloc: Global, places: &[u32], values: &[i64]) -> Result<List<i64>,
     Ok(vector)
 }
 
-/// The least instance of a piece that begins with `fixed` and whose vector from there on comes after this one. `places` are those
-/// that are left, one more than the levels behind `fixed`.
+/// The least instance of a piece that begins with `fixed` and whose vector from there on comes
+/// after this one. `places` are those that are left, one more than the levels behind `fixed`.
 fn least_after(
     alloc: Global,
     piece: &Piece,
@@ -223,7 +224,8 @@ fn least_in(alloc: Global, piece: &Piece, front: &[Range]) -> Result<Option<List
     }
 }
 
-/// The system with its first ranges narrowed to those in front. None where one of them has no number then.
+/// The system with its first ranges narrowed to those in front. None where one of them has no
+/// number then.
 fn narrowed_system(
     alloc: Global,
     system: &System,
@@ -243,7 +245,8 @@ fn narrowed_system(
     }))
 }
 
-/// The ranges, the first of them narrowed to those in front. None where one of them has no number then.
+/// The ranges, the first of them narrowed to those in front. None where one of them has no number
+/// then.
 fn narrowed(
     alloc: Global,
     boxes: &[Range],

@@ -1,4 +1,5 @@
-//! Closing up: the places of a space's pieces renumbered 0, 1, 2 and so on among those that follow the same places.
+//! Closing up: the places of a space's pieces renumbered 0, 1, 2 and so on among those that follow
+//! the same places.
 
 ghost use Rattle.std.specs.Prelude.{◌≡◌, ◌<◌, ◌≤◌, List, [], length, map, IfOk, OnOk, OnErr};
 ghost use Rattle.std.specs.List.{All};
@@ -11,8 +12,8 @@ use crate::space::Space;
 use ch_affine::List;
 use std::alloc::{AllocError, Global};
 
-/// Closes the places of a space up. By its type a space has no piece without instances, so none has to be dropped. Where memory
-/// runs out the space stays as it is.
+/// Closes the places of a space up. By its type a space has no piece without instances, so none has
+/// to be dropped. Where memory runs out the space stays as it is.
 pub fn close_up(alloc: Global, space: &mut Space) -> Result<(), AllocError>
     ensures list { OnOk result (space.new.list ≡ closed_up space.old.list) }
     ensures arrays { space.new.arrays ≡ space.old.arrays }
@@ -26,7 +27,8 @@ pub fn close_up(alloc: Global, space: &mut Space) -> Result<(), AllocError>
     Ok(())
 }
 
-/// The places of each piece, closed up. Each follows from those of the piece before, as the pieces stand in order.
+/// The places of each piece, closed up. Each follows from those of the piece before, as the pieces
+/// stand in order.
 fn closed_places(alloc: Global, pieces: &[Piece]) -> Result<List<List<u32>>, AllocError>
     requires apart { AreApart pieces.now }
     requires few { length pieces.now ≤ 2097152 }

@@ -9,8 +9,9 @@ pub enum SpaceError {
     /// The turns of all loops and the instances of all statements pass 1,048,576 together.
     #[error("more than 1048576 turns and instances")]
     TooMany,
-    /// A subscript leaves its array: the first such instance in program order, its first such access, the write before the reads,
-    /// as the number of that access among all accesses of the nest, and the cell that it names.
+    /// A subscript leaves its array: the first such instance in program order, its first such
+    /// access, the write before the reads, as the number of that access among all accesses of the
+    /// nest, and the cell that it names.
     #[error("access {access} leaves its array")]
     OutOfRange {
         first: Identity,

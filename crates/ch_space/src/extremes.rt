@@ -1,4 +1,5 @@
-//! The first and the last element of a piece, from the least points of its system and of the negated one.
+//! The first and the last element of a piece, from the least points of its system and of the
+//! negated one.
 
 ghost use Rattle.std.specs.Prelude.{◌≡◌, ◌≢◌, ◌<◌, ◌^◌, [], Some, length, map, IfOk};
 ghost use Rattle.std.specs.List.{All};

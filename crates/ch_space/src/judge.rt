@@ -22,14 +22,16 @@ use std::alloc::{AllocError, Global};
 /// The most turns and instances of a nest.
 const MOST_WORK: u32 = 1048576;
 
-/// A walk through a nest in program order: how many turns and instances it may still take, and the first refusal that it met.
+/// A walk through a nest in program order: how many turns and instances it may still take, and the
+/// first refusal that it met.
 #[derive(Debug, Drop)]
 pub(crate) struct Walk {
     pub(crate) left: u32,
     pub(crate) found: Option<SpaceError>,
 }
 
-/// The refusal of a statement at a point, where one of its accesses leaves its array. Memory is taken only there.
+/// The refusal of a statement at a point, where one of its accesses leaves its array. Memory is
+/// taken only there.
 #[tactic(auto, using(crate::proofs::Judgings::inside_is_free, crate::proofs::Subscripted::near_small))]
 fn instance_refusal(
     alloc: Global,
@@ -40,7 +42,8 @@ fn instance_refusal(
 ) -> Result<Option<SpaceError>, AllocError>
     requires fits { IsTrue (body_fits nest.now.arrays (length point.now) body.now) }
     requires near { IsNear point.now }
-    ensures { IfOk result (λ refusal. refusal ≡ leaving nest.now (instance label point.now body.now)) }
+    ensures { IfOk result (λ refusal. refusal
+        ≡ leaving nest.now (instance label point.now body.now)) }
 {
     nest.known();
     let arrays = nest.arrays.as_slice();
@@ -181,13 +184,15 @@ fn walk_item(
     }
 }
 
-/// Judges whether a nest can be run. A nest is refused that takes more than 1,048,576 turns and instances; otherwise it is
-/// refused for the first instance in program order with an access that leaves its array, by the first such access.
+/// Judges whether a nest can be run. A nest is refused that takes more than 1,048,576 turns and
+/// instances; otherwise it is refused for the first instance in program order with an access that
+/// leaves its array, by the first such access.
 pub fn judged(alloc: Global, nest: &Nest) -> Result<(), SpaceError>
     ensures exact { Judges result (judgement nest.now) }
     ensures sound { OnOk result (IsTrue (is_sound nest.now)) }
 {
-    // Most nests stay inside their arrays over the whole boxes of their loops, which `is_sound` looks at first.
+    // Most nests stay inside their arrays over the whole boxes of their loops, which `is_sound`
+    // looks at first.
     if is_sound(nest) {
         return Ok(());
     }

@@ -7,8 +7,8 @@ use crate::copies::copied_forms;
 use ch_affine::{Aff, List};
 use std::alloc::{AllocError, Global};
 
-/// A loop around a statement: its values are the greatest of `lows` and what follows by `step`, as far as the least of
-/// `highs`, all of them forms of the loops around it.
+/// A loop around a statement: its values are the greatest of `lows` and what follows by `step`, as
+/// far as the least of `highs`, all of them forms of the loops around it.
 #[derive(Debug, Drop)]
 pub(crate) struct Level {
     pub(crate) lows: List<Aff>,

@@ -21,7 +21,8 @@ pub(crate) struct Found {
     pub(crate) counts: List<u64>,
 }
 
-/// The piece of a statement: its levels are the values of its loops, and each loop with a step above 1 has a hidden value.
+/// The piece of a statement: its levels are the values of its loops, and each loop with a step
+/// above 1 has a hidden value.
 fn piece_of(
     alloc: Global,
     label: u32,
@@ -81,8 +82,8 @@ fn add_statement(
     Ok(())
 }
 
-/// Adds the pieces of the statements of the items of a body, which stand at its places from `first` on, and gives the place
-/// after them.
+/// Adds the pieces of the statements of the items of a body, which stand at its places from `first`
+/// on, and gives the place after them.
 #[cycle(find)]
 #[tactic(auto, using(crate::proofs::FindSteps::places_none, crate::proofs::FindSteps::places_done))]
 pub(crate) fn find_items(

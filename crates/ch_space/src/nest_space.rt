@@ -38,11 +38,11 @@ pub fn space_of(alloc: Global, nest: &Nest) -> Result<Space, AllocError>
     })
 }
 
-/// The space of a nest: its timed list, with a piece for each statement that has an instance, and no buffers. The levels of a
-/// piece are the values of its loops; a loop with a step above 1 gives its system a hidden variable, which counts the steps, and a
-/// condition gives it a row. A nest that takes
-/// more than 1,048,576 turns and instances is refused; otherwise one with an access that leaves its array is, for the first
-/// such instance in program order and its first such access.
+/// The space of a nest: its timed list, with a piece for each statement that has an instance, and
+/// no buffers. The levels of a piece are the values of its loops; a loop with a step above 1 gives
+/// its system a hidden variable, which counts the steps, and a condition gives it a row. A nest
+/// that takes more than 1,048,576 turns and instances is refused; otherwise one with an access that
+/// leaves its array is, for the first such instance in program order and its first such access.
 ///
 /// The nest is walked a few times over, without memory for the walk.
 pub fn of_nest(alloc: Global, nest: &Nest) -> Result<Space, SpaceError>

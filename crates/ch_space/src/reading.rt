@@ -1,4 +1,5 @@
-//! What a space tells of its pieces. A piece is given by its number: the k-th of the pieces in the order of their places, from 0.
+//! What a space tells of its pieces. A piece is given by its number: the k-th of the pieces in the
+//! order of their places, from 0.
 
 ghost use Rattle.std.specs.Prelude.{◌≡◌, ◌<◌, ◌^◌, ℕ, pos, map, length, IfOk};
 ghost use Rattle.std.specs.List.{All, sum};
@@ -63,8 +64,8 @@ pub fn label(space: &Space, number: u32) -> Label
     space.pieces.as_slice()[number as usize].label
 }
 
-/// The numbers, ascending, of the pieces that share a level with a piece, itself among them. There are none where the piece
-/// doesn't have that level.
+/// The numbers, ascending, of the pieces that share a level with a piece, itself among them. There
+/// are none where the piece doesn't have that level.
 pub fn group(alloc: Global, space: &Space, number: u32, level: u32) -> Result<List<u32>, AllocError>
     requires { number < length (pieces space.now.list) }
     ensures { IfOk result (λ numbers. numbers ≡ group space.now.list number level) }

@@ -1,4 +1,5 @@
-//! The rows, boxes and forms of the piece of a statement, made from the loops and conditions around it.
+//! The rows, boxes and forms of the piece of a statement, made from the loops and conditions around
+//! it.
 
 ghost use Rattle.std.specs.Prelude.{◌≡◌, ◌≤◌, ◌≤ℤ◌, ◌<◌, ◌+◌, ◌*◌, ◌^◌, ℤ, neg_ℤ, [], ◌∷◌, ◌++◌, length, map, IfOk, OnOk};
 ghost use Rattle.std.specs.List.{All};
@@ -106,7 +107,8 @@ fn push_high_rows(
     Ok(())
 }
 
-/// The rows which say that a loop's value is that of a low end and so many steps, as the hidden variable with number `at` tells.
+/// The rows which say that a loop's value is that of a low end and so many steps, as the hidden
+/// variable with number `at` tells.
 fn steps_low(
     alloc: Global,
     loops: usize,
@@ -251,7 +253,8 @@ pub(crate) fn hidden_in(around: &[Around]) -> usize
     hidden
 }
 
-/// The rows of loops and conditions one inside another, the outermost first, over so many levels and variables in all.
+/// The rows of loops and conditions one inside another, the outermost first, over so many levels
+/// and variables in all.
 pub(crate) fn rows_of(
     alloc: Global,
     around: &[Around],

@@ -4,9 +4,9 @@ use std::marker::Model;
 
 /// A timed list as pieces. Contracts see the list, and beside it what commands keep count of.
 ///
-/// By its type each piece has an instance, the pieces stand in the order of their places, and the list is well formed; there are
-/// at most 256 pieces and 2,097,152 instances, 10 levels and 32 commands; every array, iterator and subscript that a body uses
-/// exists.
+/// By its type each piece has an instance, the pieces stand in the order of their places, and the
+/// list is well formed; there are at most 256 pieces and 2,097,152 instances, 10 levels and 32
+/// commands; every array, iterator and subscript that a body uses exists.
 #[derive(Debug, Drop)]
 pub struct Space {
     /// How many arrays are declared; the numbers from there on are those of buffers.

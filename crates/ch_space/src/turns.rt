@@ -9,8 +9,9 @@ use ch_nest::{as_number, extended, greatest_low, is_met, least_high, next_value,
 /// One past the most instances of a space stands for every number that is past them.
 const TOO_MANY_INSTANCES: u64 = 2097153;
 
-/// How often what stands in these loops and conditions is executed at a point of the loops around them, counted up to one past
-/// the most instances of a space. It does not go through the turns of the innermost loop.
+/// How often what stands in these loops and conditions is executed at a point of the loops around
+/// them, counted up to one past the most instances of a space. It does not go through the turns of
+/// the innermost loop.
 #[cycle(turns)]
 #[tactic(auto, using(crate::proofs::TurnSteps::first_at, crate::proofs::TurnSteps::first_below, crate::proofs::TurnSteps::met_at, crate::proofs::TurnSteps::met_below, crate::proofs::TurnSteps::unmet_below, crate::proofs::TurnSteps::no_parts))]
 pub(crate) fn turns_up_to(around: &[Around], point: &[i64]) -> u64

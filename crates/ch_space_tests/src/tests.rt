@@ -1,8 +1,8 @@
 //! Small nests and their spaces.
 
-use ch_space::{Space, SpaceError, count, of_nest, piece_count, pieces, places};
 use ch_affine::{Aff, List, Text};
 use ch_nest::{Access, ArrayDecl, Body, Expr, Item, Nest, Sub};
+use ch_space::{Space, SpaceError, count, of_nest, piece_count, pieces, places};
 use ch_timed::Label;
 use std::alloc::{AllocError, Global};
 use std::test::Fail;
@@ -89,8 +89,8 @@ fn both(alloc: Global, first: Item, second: Item) -> Result<List<Item>, AllocErr
     Ok(items)
 }
 
-/// An array of three cells, and a loop over i below `rows`, with `A[i] = 1` and a loop over j from `first` to i below it,
-/// with `A[j + shift] = A[i]`.
+/// An array of three cells, and a loop over i below `rows`, with `A[i] = 1` and a loop over j from
+/// `first` to i below it, with `A[j + shift] = A[i]`.
 fn triangle(alloc: Global, rows: i64, first: i64, shift: i64) -> Result<Nest, Fail> {
     let second = below(alloc, first, inner(alloc, shift)?)?;
     let items = both(alloc, outer(alloc)?, second)?;
@@ -126,7 +126,8 @@ fn labelled(alloc: Global, label: u32) -> Result<Item, Fail> {
     Ok(Item::Assign { label, body })
 }
 
-/// `for (i = first; i < end; i = i + 3)`, in an array of eight cells: an assignment, two more where `2*i >= 3`, and a fourth.
+/// `for (i = first; i < end; i = i + 3)`, in an array of eight cells: an assignment, two more where
+/// `2*i >= 3`, and a fourth.
 fn stepped(alloc: Global, first: i64, end: i64) -> Result<Nest, Fail> {
     let row = form(alloc, &[2], -3)?;
     let inner = both(alloc, labelled(alloc, 1)?, labelled(alloc, 2)?)?;

@@ -104,7 +104,8 @@ pub(crate) fn tiled_boxes(
     requires level { level < length boxes.now }
     requires some { 1 ≤ size }
     requires small { size ≤ 4096 }
-    ensures value { IfOk result (λ new. (d : Range) → new ≡ tiled_boxes outer level size boxes.now d) }
+    ensures value { IfOk result (λ new. (d : Range) → new
+        ≡ tiled_boxes outer level size boxes.now d) }
     ensures ranges { IfOk result (All IsBox) }
 {
     let (before, behind) = boxes.split_at(outer);

@@ -11,7 +11,8 @@ use ch_space::Piece;
 use ch_space::copies::copied_piece;
 use std::alloc::{AllocError, Global};
 
-/// The piece with a new level at `outer`, which counts the tiles of that size in which the values of `level` lie.
+/// The piece with a new level at `outer`, which counts the tiles of that size in which the values
+/// of `level` lie.
 fn tiled_piece(
     alloc: Global,
     piece: &Piece,

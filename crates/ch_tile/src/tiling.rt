@@ -82,12 +82,14 @@ fn tiled(
     closed_space(alloc, space, pieces, counts, space.weight)
 }
 
-/// The space with the values of a level in tiles of `size` values. A new loop over the tiles becomes level `outer`, counted from 1,
-/// of the pieces that share this level with the piece, and the loops from there on stand in it. All else stays.
+/// The space with the values of a level in tiles of `size` values. A new loop over the tiles
+/// becomes level `outer`, counted from 1, of the pieces that share this level with the piece, and
+/// the loops from there on stand in it. All else stays.
 ///
-/// It is refused, the first of these causes counting, where there is no such piece, where it doesn't have the level, where `outer`
-/// isn't one of 1 to the level, where the size isn't one of 1 to 4096, where a piece shares level `outer` but not the level that is
-/// tiled, and where a piece would have more than 10 levels. It is not tested whether the program means the same.
+/// It is refused, the first of these causes counting, where there is no such piece, where it
+/// doesn't have the level, where `outer` isn't one of 1 to the level, where the size isn't one of 1
+/// to 4096, where a piece shares level `outer` but not the level that is tiled, and where a piece
+/// would have more than 10 levels. It is not tested whether the program means the same.
 pub fn tile(
     alloc: Global,
     space: &Space,

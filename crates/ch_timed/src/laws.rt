@@ -21,8 +21,8 @@ pub fn start_is_run()
         → run nest cells ≡ done_flat (extents_of nest.arrays) (start nest) cells }
 {}
 
-/// Arrays behind those that a list accesses, as buffers are, take no cell away and move none, and their
-/// cells stay as they are.
+/// Arrays behind those that a list accesses, as buffers are, take no cell away and move none, and
+/// their cells stay as they are.
 pub fn more_arrays_change_nothing()
     ensures inside { (extents more : List (List ℕ)) (list : List Element)
         → StaysInside extents list → StaysInside (extents ++ more) list }
@@ -46,20 +46,22 @@ pub fn start_in_order()
     ensures sorted { (nest : LoopNest) → in_order (start nest) ≡ start nest }
 {}
 
-/// The list of a nest is well formed: the labels of a nest number its statements, so no identity stands twice in it.
+/// The list of a nest is well formed: the labels of a nest number its statements, so no identity
+/// stands twice in it.
 pub fn start_well_formed()
     ensures { (nest : LoopNest) → IsTrue (is_nest nest) → IsTrue (is_well_formed (start nest)) }
 {}
 
-/// Where no subscript of a nest leaves its array, no element of its list accesses a cell that isn't there.
+/// Where no subscript of a nest leaves its array, no element of its list accesses a cell that isn't
+/// there.
 pub fn start_stays_inside()
     ensures { (nest : LoopNest)
         → IsTrue (items_inside (extents_of nest.arrays) nest.items [])
         → StaysInside (extents_of nest.arrays) (start nest) }
 {}
 
-/// Putting a list in order keeps each of its elements. Where two of them have one vector the list in order doesn't ascend, so
-/// it isn't well formed.
+/// Putting a list in order keeps each of its elements. Where two of them have one vector the list
+/// in order doesn't ascend, so it isn't well formed.
 pub fn order_keeps_all()
     ensures members { (list : List Element) (e : Element) → In e (in_order list) ↔ In e list }
     ensures count { (list : List Element) → length (in_order list) ≡ length list }
@@ -67,8 +69,9 @@ pub fn order_keeps_all()
         ↔ Pairwise (λ (e f : Element). e.vector ≢ f.vector) list }
 {}
 
-/// Closing up changes no identity and no body, and keeps which of two elements comes first. So the elements of a list in
-/// order stay where they stand, the same steps are executed, and the list stays well formed.
+/// Closing up changes no identity and no body, and keeps which of two elements comes first. So the
+/// elements of a list in order stay where they stand, the same steps are executed, and the list
+/// stays well formed.
 pub fn closing_keeps_order()
     ensures vectors { (list : List Element) (e f : Element) → In e list → In f list
         → comes_before (closed_vector list e) (closed_vector list f)

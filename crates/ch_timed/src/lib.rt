@@ -1,5 +1,6 @@
-//! Timed lists: the statement instances of a program, each with the vector that says when it is executed. What such a list
-//! does to a store, when two of its elements conflict, the list of a nest, and what closing places up does to a list.
+//! Timed lists: the statement instances of a program, each with the vector that says when it is
+//! executed. What such a list does to a store, when two of its elements conflict, the list of a
+//! nest, and what closing places up does to a list.
 #![tactic(auto)]
 
 mod element;

@@ -15,8 +15,8 @@ pub trait Timed {
     fn known(&self)
         ensures { IsTrue (is_well_formed (list self.now)) };
 
-    /// The element with the least vector above the given one, the empty vector being below all; None exactly where there is
-    /// none.
+    /// The element with the least vector above the given one, the empty vector being below all;
+    /// None exactly where there is none.
     fn after(&self, alloc: Global, vector: &[i64]) -> Result<Option<Element>, AllocError>
         ensures { IfOk result (λ r. r ≡ next_after vector.now (list self.now)) };
 }

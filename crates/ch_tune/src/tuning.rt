@@ -54,8 +54,9 @@ fn next<J: Judge>(alloc: Global, judge: &J, search: &mut Search) -> Result<Entry
     }
 }
 
-/// Leads a search over the grid of a subject from its first trial to its end: the least pending trial is measured, again and
-/// again, each trial `repeat` times unless it is refused. What is told of it at the end has a line for each entry.
+/// Leads a search over the grid of a subject from its first trial to its end: the least pending
+/// trial is measured, again and again, each trial `repeat` times unless it is refused. What is told
+/// of it at the end has a line for each entry.
 pub fn tune<J: Judge>(alloc: Global, judge: &J, repeat: u32) -> Result<SessionPart, AllocError>
     requires { (1 ≤ repeat) × (repeat ≤ 9) }
     ensures tuned { IfOk result (λ part.

@@ -1,4 +1,6 @@
-//! That turns and seats cross threads wherever their value may: another thread shares the turn, and a seat goes there and comes back. The check proves it here once, for all values, and not first where a crate above starts a thread.
+//! That turns and seats cross threads wherever their value may: another thread shares the turn, and
+//! a seat goes there and comes back. The check proves it here once, for all values, and not first
+//! where a crate above starts a thread.
 ghost use Rattle.std.specs.Prelude.{◌≡◌};
 ghost use Rattle.ch_turn.specs.Seats.{HasAllNumbers, IsIdle, holdings, own_number};
 
@@ -16,7 +18,8 @@ fn read_news<V: Listed>(turn: &Turn<V>, mut seat: TurnSeat<V>) -> TurnSeat<V>
     seat
 }
 
-/// Another thread reads the news through a seat of its own, and the turn is closed once that seat is back.
+/// Another thread reads the news through a seat of its own, and the turn is closed once that seat
+/// is back.
 pub(crate) fn cross<V: Listed + Send, R: Threads + Sync>(
     rt: &R,
     alloc: Global,
@@ -33,11 +36,13 @@ pub(crate) fn cross<V: Listed + Send, R: Threads + Sync>(
         rt,
         move || -> TurnSeat<V>
             requires { IsIdle shared.now (own_number other) other }
-            ensures { IsIdle shared.entry.now (own_number other) result × (holdings result ≡ holdings other) }
+            ensures { IsIdle shared.entry.now (own_number other) result
+                × (holdings result ≡ holdings other) }
         { read_news(shared, other) },
         move || -> TurnSeat<V>
             requires { IsIdle shared.now (own_number seat) seat }
-            ensures { IsIdle shared.entry.now (own_number seat) result × (holdings result ≡ holdings seat) }
+            ensures { IsIdle shared.entry.now (own_number seat) result
+                × (holdings result ≡ holdings seat) }
         { read_news(shared, seat) },
     );
     let mut seat = seen;

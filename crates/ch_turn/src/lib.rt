@@ -1,4 +1,7 @@
-//! One value behind a ticket lock, with a history that only grows. Threads take turns on the value through seats, in the order of the tickets that they drew, and a count of the history can be read without a turn. What a seat has seen, read and added is known to contracts, so what several threads did to the value is told by their seats alone.
+//! One value behind a ticket lock, with a history that only grows. Threads take turns on the value
+//! through seats, in the order of the tickets that they drew, and a count of the history can be
+//! read without a turn. What a seat has seen, read and added is known to contracts, so what several
+//! threads did to the value is told by their seats alone.
 #![tactic(auto)]
 
 mod crossing;

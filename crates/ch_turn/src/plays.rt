@@ -15,7 +15,8 @@ impl<V: Listed> Play<Option<V>, View<V::Entry>> for Draw {
     ghost then = { Draws };
 }
 
-/// What a look tells of the value that it takes, picked at each call: a step can't read the table's terms.
+/// What a look tells of the value that it takes, picked at each call: a step can't read the table's
+/// terms.
 pub(crate) trait Kin<V> {
     ghost kin: { V → Type 0 };
 }

@@ -8,9 +8,12 @@ use atomic_table::Seat;
 
 pub(crate) type TableSeat<V> = Seat<Option<V>, View<<V as Listed>::Entry>>;
 
-/// The right to take turns on a value, some number of times, under a number of its own. A thread that takes turns has one.
+/// The right to take turns on a value, some number of times, under a number of its own. A thread
+/// that takes turns has one.
 ///
-/// A seat holds seat numbers, each with the entries that carry it: its own number, and for the first seat, or one that others were joined to, more. A seat that is dropped takes its numbers with it, and the turn can't be closed any more.
+/// A seat holds seat numbers, each with the entries that carry it: its own number, and for the
+/// first seat, or one that others were joined to, more. A seat that is dropped takes its numbers
+/// with it, and the turn can't be closed any more.
 #[derive(Drop)]
 pub struct TurnSeat<V: Listed> {
     pub(crate) seat: TableSeat<V>,

@@ -1,4 +1,5 @@
-//! Seats that leave marks on one value by turns. What a mark says, and that each stands once and in its place, is compared when the value comes back.
+//! Seats that leave marks on one value by turns. What a mark says, and that each stands once and in
+//! its place, is compared when the value comes back.
 mod marks;
 mod threads;
 

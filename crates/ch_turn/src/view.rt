@@ -1,4 +1,5 @@
-//! The ticket lock as a rule over a table: what each seat knows, and what is fixed when the turn is made. No value of these types is made, but for `Terms` while a turn is opened.
+//! The ticket lock as a rule over a table: what each seat knows, and what is fixed when the turn is
+//! made. No value of these types is made, but for `Terms` while a turn is opened.
 ghost use Rattle.std.specs.Prelude.{ℕ, List};
 
 use crate::listed::Listed;

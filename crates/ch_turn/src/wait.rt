@@ -1,4 +1,5 @@
-//! How a thread waits for its ticket: it spins, then yields, then sleeps. None of it changes the table, so no clause speaks of it.
+//! How a thread waits for its ticket: it spins, then yields, then sleeps. None of it changes the
+//! table, so no clause speaks of it.
 use crate::listed::Listed;
 use crate::turn::{SERVING, Turn};
 use std::sync::Wait;
@@ -12,7 +13,8 @@ const SPINS: u32 = 128;
 const YIELDS: u32 = 256;
 
 impl<V: Listed> Turn<V> {
-    /// Lets time pass before the next look, of which `round` came before, and the last one found `now_serving`.
+    /// Lets time pass before the next look, of which `round` came before, and the last one found
+    /// `now_serving`.
     pub(crate) fn pause<R: Wait>(&self, rt: &R, now_serving: u64, round: u32) {
         if round < SPINS {
             hint::spin_loop();
@@ -23,9 +25,10 @@ impl<V: Listed> Turn<V> {
         }
     }
 
-    // A sleeper is counted before SERVING is compared, and whoever raises SERVING reads the count afterwards. So either
-    // the sleeper finds SERVING raised and doesn't sleep, or it is woken. Fewer than 2^32 turns pass in between, since
-    // its own ticket is still to be served, so the low bits of SERVING tell a change.
+    // A sleeper is counted before SERVING is compared, and whoever raises SERVING reads the count
+    // afterwards. So either the sleeper finds SERVING raised and doesn't sleep, or it is woken.
+    // Fewer than 2^32 turns pass in between, since its own ticket is still to be served, so the low
+    // bits of SERVING tell a change.
     fn sleep<R: Wait>(&self, rt: &R, now_serving: u64) {
         self.sleepers.fetch_add(1, Ordering::SeqCst);
         self.table

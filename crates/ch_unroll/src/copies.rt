@@ -80,7 +80,8 @@ fn push_piece(
     }
 }
 
-/// Candidates for the pieces with these counts, those that share the level with our places being copied for each remainder.
+/// Candidates for the pieces with these counts, those that share the level with our places being
+/// copied for each remainder.
 pub(crate) fn copies(
     alloc: Global,
     pieces: &[Piece],

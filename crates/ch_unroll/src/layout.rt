@@ -51,7 +51,8 @@ fn deepest_shared(pieces: &[Piece], ours: &[u32], level: usize) -> usize
 
 /// How many places the pieces that share the level with these places take there.
 fn width_at(pieces: &[Piece], ours: &[u32], level: usize) -> u64
-    ensures value { pos result ≡ width_at level (sharing level (map pos ours.now) (map places_of pieces.now)) }
+    ensures value { pos result
+        ≡ width_at level (sharing level (map pos ours.now) (map places_of pieces.now)) }
     ensures near { result ≤ 2 ^ 32 }
 {
     let mut greatest = 0;

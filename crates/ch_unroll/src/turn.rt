@@ -42,7 +42,8 @@ fn turn_boxes(
     Ok(new)
 }
 
-/// The form of so many times the one variable that has so many before it and behind it, and a remainder.
+/// The form of so many times the one variable that has so many before it and behind it, and a
+/// remainder.
 fn multiple(
     alloc: Global,
     before: usize,

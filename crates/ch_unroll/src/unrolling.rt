@@ -32,7 +32,8 @@ fn no_amount(amount: i64) -> Option<Shape>
     })
 }
 
-/// Why the shape of the program forbids it, the first cause of those that the pieces show before it is done.
+/// Why the shape of the program forbids it, the first cause of those that the pieces show before it
+/// is done.
 fn first_cause(space: &Space, piece: i64, level: i64, amount: i64) -> Option<Shape>
     ensures { result ≡ first_cause space.now.list space.now.weight piece level amount }
 {
@@ -68,13 +69,15 @@ fn unrolled_candidates(
     copies(alloc, pieces, space.counts.as_slice(), ours, layout)
 }
 
-/// The space with an unrolled loop: so many turns of the level around a piece become copies of the loop's body, one behind another,
-/// for all pieces of the loop. It is not tested whether the program means the same.
+/// The space with an unrolled loop: so many turns of the level around a piece become copies of the
+/// loop's body, one behind another, for all pieces of the loop. It is not tested whether the
+/// program means the same.
 ///
 /// # Errors
 ///
-/// C1 where there is no piece of that number, C2 where it doesn't have that level, C4 where the amount isn't 1 to 32, C6 where the
-/// commands multiply by too much, and C7 where there are more than 256 pieces then.
+/// C1 where there is no piece of that number, C2 where it doesn't have that level, C4 where the
+/// amount isn't 1 to 32, C6 where the commands multiply by too much, and C7 where there are more
+/// than 256 pieces then.
 pub fn unroll(
     alloc: Global,
     space: &Space,

@@ -1,4 +1,5 @@
-//! Variants of a loop nest: what a recipe makes of it, command by command, and the code made for that.
+//! Variants of a loop nest: what a recipe makes of it, command by command, and the code made for
+//! that.
 #![tactic(auto)]
 
 mod applying;

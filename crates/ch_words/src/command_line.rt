@@ -21,7 +21,8 @@ fn command_word<'a>(alloc: Global) -> Arg<'a>
     Arg::new(alloc, "command").required(true)
 }
 
-/// The command before it has arguments. The words begin after the program's name, and there is no help.
+/// The command before it has arguments. The words begin after the program's name, and there is no
+/// help.
 fn bare<'a>(alloc: Global) -> Command<'a>
     ensures { app_of result ≡ bare }
 {
@@ -45,7 +46,8 @@ pub fn command_line<'a>(alloc: Global) -> Result<Command<'a>, AllocError>
 /// What the words have for each argument, or why they aren't in the set that `command` takes.
 pub fn matched<'a>(command: Command<'a>, words: &'a [String]) -> Result<ArgMatches<'a>, Error>
     requires { app_of command ≡ stated }
-    ensures matches { IfOk result (λ m. rows_of (found_of m) ≡ matches_of stated (map string_bytes words.entry.now)) }
+    ensures matches { IfOk result (λ m. rows_of (found_of m)
+        ≡ matches_of stated (map string_bytes words.entry.now)) }
     ensures faults { FailsBy (fault_of stated (map string_bytes words.entry.now)) result }
 {
     command.try_get_matches_from(words)

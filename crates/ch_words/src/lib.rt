@@ -1,7 +1,8 @@
 //! The words of the command line: what they ask for, or that they aren't in the stated set.
 //!
-//! `clap` reads them as one simple command with a required word, the command's name, and four options with a value each.
-//! What the values say is read here, since the stated numbers are narrower than those that `parse` takes.
+//! `clap` reads them as one simple command with a required word, the command's name, and four
+//! options with a value each. What the values say is read here, since the stated numbers are
+//! narrower than those that `parse` takes.
 #![tactic(auto)]
 
 mod command_line;

@@ -39,7 +39,8 @@ fn capped(most: u32, digits: &[u8]) -> u64
     number
 }
 
-/// The number of at most `most` that the text writes in decimal digits alone, with any zeros before it.
+/// The number of at most `most` that the text writes in decimal digits alone, with any zeros before
+/// it.
 pub fn natural_of(most: u32, text: &[u8]) -> Option<u32>
     ensures { result ≡ natural_of most text.now }
 {
@@ -53,7 +54,8 @@ pub fn natural_of(most: u32, text: &[u8]) -> Option<u32>
     Some(number as u32)
 }
 
-/// The number of magnitude at most `LARGEST_VALUE` that the text writes, with one `-` before it where it is negative.
+/// The number of magnitude at most `LARGEST_VALUE` that the text writes, with one `-` before it
+/// where it is negative.
 pub fn whole_of(text: &[u8]) -> Option<i64>
     ensures { result ≡ whole_of text.now }
 {

@@ -83,7 +83,8 @@ impl Options<'_> {
         }
     }
 
-    /// The values of `--at`, and within, `None` where it isn't there. `None` where it is no list of whole numbers.
+    /// The values of `--at`, and within, `None` where it isn't there. `None` where it is no list of
+    /// whole numbers.
     pub fn place(&self, alloc: Global) -> Result<Option<Option<List<i64>>>, AllocError>
         ensures { IfOk result (λ place. place ≡ place_of (written self.now).at) }
     {

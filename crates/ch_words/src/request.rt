@@ -15,7 +15,8 @@ use std::alloc::{AllocError, Global};
 pub enum Request {
     /// Print each program's arrays after one run of its nest, or only their sums.
     Eval { sums: bool },
-    /// Tell for each session whether the recipe is legal at the point with these values, or at the centre.
+    /// Tell for each session whether the recipe is legal at the point with these values, or at the
+    /// centre.
     Check { at: Option<List<i64>> },
     /// The same, with the pieces and the generated code.
     Show { at: Option<List<i64>> },
@@ -75,7 +76,8 @@ fn request_in(alloc: Global, matches: &ArgMatches<'_>) -> Result<Option<Request>
     request_by(alloc, command, &options)
 }
 
-/// What the words after the program's name ask for, and `None` exactly where they aren't in the stated set.
+/// What the words after the program's name ask for, and `None` exactly where they aren't in the
+/// stated set.
 pub fn read_words(alloc: Global, words: &[String]) -> Result<Option<Request>, AllocError>
     ensures { IfOk result (λ request. request ≡ request_of (map string_bytes words.now)) }
 {

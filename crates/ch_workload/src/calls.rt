@@ -79,7 +79,8 @@ pub(crate) fn calls<'a>(
     scope: &Scope<'_, '_>,
     tokens: &'a [Token],
 ) -> Result<(Called, &'a [Token]), ParseError>
-    ensures { Gives (λ r. (r.0, r.1.now)) result (calls_at scope.now.bytes.now scope.now.sessions.now tokens.now) }
+    ensures { Gives (λ r.
+        (r.0, r.1.now)) result (calls_at scope.now.bytes.now scope.now.sessions.now tokens.now) }
 {
     let readings = MoreCalls { scope };
     let none = Called {

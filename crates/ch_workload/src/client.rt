@@ -20,7 +20,8 @@ use std::alloc::Global;
 #[derive(Debug, Drop)]
 pub struct Script {
     pub name: Text,
-    /// Whether it builds a trial itself where it is given none, rather than go on with what there is.
+    /// Whether it builds a trial itself where it is given none, rather than go on with what there
+    /// is.
     pub patient: bool,
     /// The machine on which its costs are counted.
     pub machine: Machine,
@@ -62,7 +63,8 @@ fn read_client<'a>(
     scope: &Scope<'_, '_>,
     tokens: &'a [Token],
 ) -> Result<(Script, &'a [Token]), ParseError>
-    ensures { Gives (λ r. (r.0, r.1.now)) result (client_at scope.now.bytes.now scope.now.programs.now scope.now.sessions.now tokens.now) }
+    ensures { Gives (λ r.
+        (r.0, r.1.now)) result (client_at scope.now.bytes.now scope.now.programs.now scope.now.sessions.now tokens.now) }
 {
     let bytes = scope.bytes;
     let rest = keyword(bytes, Code2::D2, Keyword::Client, tokens)?;
@@ -96,8 +98,10 @@ fn section<'a>(
 ) -> Result<(Script, &'a [Token]), ParseError>
     requires cut { IsCut scope.now.bytes.now 0 tokens.now }
     requires from { from ≤ length tokens.now }
-    ensures exact { Gives (λ r. (r.0, r.1.now)) result (client_at scope.now.bytes.now scope.now.programs.now scope.now.sessions.now (drop from tokens.now)) }
-    ensures fits { IfOk result (λ r. IsTrue (client_fits (array_counts scope.now.programs.now) (length scope.now.sessions.now) r.0)) }
+    ensures exact { Gives (λ r.
+        (r.0, r.1.now)) result (client_at scope.now.bytes.now scope.now.programs.now scope.now.sessions.now (drop from tokens.now)) }
+    ensures fits { IfOk result (λ r.
+        IsTrue (client_fits (array_counts scope.now.programs.now) (length scope.now.sessions.now) r.0)) }
     ensures name { IfOk result (λ r. IsTrue (is_name r.0.name)) }
     ensures taken { IfOk result (λ r. length r.1.now + 1 ≤ length tokens.now - from) }
     ensures place { IfErr result (λ e. IsWithin (length scope.now.bytes.now) e) }
@@ -106,16 +110,19 @@ fn section<'a>(
     Ok((client, rest))
 }
 
-/// The client section whose first token, `client`, is token `from`, behind what was declared: the client, or its first refusal.
+/// The client section whose first token, `client`, is token `from`, behind what was declared: the
+/// client, or its first refusal.
 ///
-/// The tokens are those of the bytes. Then what the client fills and calls was declared, it fills no array twice and makes 1 to
-/// 10,000 calls, `next` is behind `from`, and the place of a refusal lies in the text or is its end.
+/// The tokens are those of the bytes. Then what the client fills and calls was declared, it fills
+/// no array twice and makes 1 to 10,000 calls, `next` is behind `from`, and the place of a refusal
+/// lies in the text or is its end.
 ///
 /// # Errors
 ///
-/// D2 at a token that doesn't fit the grammar; D3 at the name of a program, an array or a session that wasn't declared, and at
-/// that of an array that the client fills twice; D7 at a count of calls that is 0, or with which there are more than 10,000; D9 at
-/// a number of the machine that is past its limit.
+/// D2 at a token that doesn't fit the grammar; D3 at the name of a program, an array or a session
+/// that wasn't declared, and at that of an array that the client fills twice; D7 at a count of
+/// calls that is 0, or with which there are more than 10,000; D9 at a number of the machine that is
+/// past its limit.
 #[tactic(auto, using(ch_nestparse::proofs::Ascii::cut_ascii, ch_nestparse::proofs::Cuts::few_tokens))]
 pub fn parse_client(
     alloc: Global,
@@ -127,8 +134,10 @@ pub fn parse_client(
     requires short { length bytes.now < 2 ^ 32 }
     requires cut { IsCut bytes.now 0 tokens.now }
     requires from { from ≤ length tokens.now }
-    ensures exact { Gives (λ p. p) result (section_at bytes.now declared.now.programs.now declared.now.sessions.now tokens.now from) }
-    ensures fits { IfOk result (λ p. IsTrue (client_fits (array_counts declared.now.programs.now) (length declared.now.sessions.now) p.client)) }
+    ensures exact { Gives (λ p.
+        p) result (section_at bytes.now declared.now.programs.now declared.now.sessions.now tokens.now from) }
+    ensures fits { IfOk result (λ p.
+        IsTrue (client_fits (array_counts declared.now.programs.now) (length declared.now.sessions.now) p.client)) }
     ensures name { IfOk result (λ p. IsTrue (is_name p.client.name)) }
     ensures place { IfErr result (λ e. IsWithin (length bytes.now) e) }
     ensures behind { IfOk result (λ p. from < p.next) }

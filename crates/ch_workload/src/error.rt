@@ -29,8 +29,8 @@ impl DeckCode {
     }
 }
 
-/// Why a section of a deck was not read. `at` is the byte of the place, or the length of the input where
-/// the place is its end. `value` is the number of an A1, and 0 for every other code.
+/// Why a section of a deck was not read. `at` is the byte of the place, or the length of the input
+/// where the place is its end. `value` is the number of an A1, and 0 for every other code.
 #[derive(Clone, Copy, Debug, PartialEq, Eq, Error)]
 pub enum SectionError {
     #[error("refused {code:?} at byte {at}")]

@@ -118,7 +118,8 @@ pub(crate) fn fills<'a>(
     scope: &Scope<'_, '_>,
     tokens: &'a [Token],
 ) -> Result<(List<ClientFill>, &'a [Token]), ParseError>
-    ensures { Gives (λ r. (r.0, r.1.now)) result (fills_at scope.now.bytes.now scope.now.programs.now tokens.now) }
+    ensures { Gives (λ r.
+        (r.0, r.1.now)) result (fills_at scope.now.bytes.now scope.now.programs.now tokens.now) }
 {
     repeat(
         &MoreFills { scope },

@@ -22,7 +22,8 @@ fn program_line<'a>(
     scope: &Scope<'_, '_>,
     tokens: &'a [Token],
 ) -> Result<(u32, &'a [Token]), ParseError>
-    ensures exact { Gives (λ r. (r.0, r.1.now)) result (program_line_at scope.now.bytes.now scope.now.programs.now tokens.now) }
+    ensures exact { Gives (λ r.
+        (r.0, r.1.now)) result (program_line_at scope.now.bytes.now scope.now.programs.now tokens.now) }
     ensures inside { IfOk result (λ r. r.0 < length scope.now.programs.now) }
 {
     let rest = keyword(scope.bytes, Code2::D2, Keyword::Program, tokens)?;
@@ -37,7 +38,8 @@ fn recipe_line<'a>(
     scope: &Scope<'_, '_>,
     tokens: &'a [Token],
 ) -> Result<(u32, &'a [Token]), ParseError>
-    ensures exact { Gives (λ r. (r.0, r.1.now)) result (recipe_line_at scope.now.bytes.now scope.now.recipes.now tokens.now) }
+    ensures exact { Gives (λ r.
+        (r.0, r.1.now)) result (recipe_line_at scope.now.bytes.now scope.now.recipes.now tokens.now) }
     ensures inside { IfOk result (λ r. r.0 < length scope.now.recipes.now) }
 {
     let rest = keyword(scope.bytes, Code2::D2, Keyword::Recipe, tokens)?;
@@ -52,7 +54,8 @@ pub(crate) fn begun<'a>(
     scope: &Scope<'_, '_>,
     tokens: &'a [Token],
 ) -> Result<(Heading, &'a [Token]), ParseError>
-    ensures exact { Gives (λ r. (r.0, r.1.now)) result (heading_at scope.now.bytes.now scope.now.programs.now scope.now.recipes.now tokens.now) }
+    ensures exact { Gives (λ r.
+        (r.0, r.1.now)) result (heading_at scope.now.bytes.now scope.now.programs.now scope.now.recipes.now tokens.now) }
     ensures program { IfOk result (λ r. r.0.program < length scope.now.programs.now) }
     ensures recipe { IfOk result (λ r. r.0.recipe < length scope.now.recipes.now) }
 {

@@ -9,10 +9,12 @@ ghost use Rattle.ch_workload.specs.Admissible.{has_admissible, requirements};
 
 /// A grid has an admissible point exactly where some point of it meets all conditions.
 pub fn admissible_points()
-    ensures some { (conditions : List Cond) (params : List Param) → has_admissible conditions params ≡ true
+    ensures some { (conditions : List Cond) (params : List Param) → has_admissible conditions params
+        ≡ true
         → (point : List ℕ) × IsTrue (is_point (sizes params) point)
         × IsTrue (is_admissible params (requirements (length params) conditions) point) }
-    ensures each { (conditions : List Cond) (params : List Param) (point : List ℕ) → IsTrue (is_point (sizes params) point)
+    ensures each { (conditions : List Cond) (params : List Param) (point : List ℕ)
+        → IsTrue (is_point (sizes params) point)
         → IsTrue (is_admissible params (requirements (length params) conditions) point)
         → has_admissible conditions params ≡ true }
 {}

@@ -1,8 +1,8 @@
 //! What a deck tunes and who calls it: sessions and clients, and the readers of their sections.
 //!
-//! A session names a program, a recipe and a grid of values for the recipe's parameters. A client is a
-//! list of calls of sessions, with a machine on which their costs are counted. What they name was
-//! declared before them in the deck.
+//! A session names a program, a recipe and a grid of values for the recipe's parameters. A client
+//! is a list of calls of sessions, with a machine on which their costs are counted. What they name
+//! was declared before them in the deck.
 #![tactic(auto)]
 
 mod admissible;

@@ -12,8 +12,8 @@ use ch_nestparse::{ParsedProgram, name, place, refused};
 use ch_script::Recipe;
 use std::alloc::Global;
 
-/// What a session or a client may name: the programs, recipes and sessions that stand before it in the
-/// deck, which are at most 16, 16 and 8.
+/// What a session or a client may name: the programs, recipes and sessions that stand before it in
+/// the deck, which are at most 16, 16 and 8.
 #[derive(Drop)]
 pub struct Declared<'d> {
     pub programs: &'d [ParsedProgram],
@@ -109,7 +109,8 @@ pub(crate) fn program<'a>(
     scope: &Scope<'_, '_>,
     tokens: &'a [Token],
 ) -> Result<(u32, &'a [Token]), ParseError>
-    ensures exact { Gives (λ r. (r.0, r.1.now)) result (program_at scope.now.bytes.now scope.now.programs.now tokens.now) }
+    ensures exact { Gives (λ r.
+        (r.0, r.1.now)) result (program_at scope.now.bytes.now scope.now.programs.now tokens.now) }
     ensures inside { IfOk result (λ r. r.0 < length scope.now.programs.now) }
 {
     let at = place(scope.bytes, tokens);
@@ -123,7 +124,8 @@ pub(crate) fn recipe<'a>(
     scope: &Scope<'_, '_>,
     tokens: &'a [Token],
 ) -> Result<(u32, &'a [Token]), ParseError>
-    ensures exact { Gives (λ r. (r.0, r.1.now)) result (recipe_at scope.now.bytes.now scope.now.recipes.now tokens.now) }
+    ensures exact { Gives (λ r.
+        (r.0, r.1.now)) result (recipe_at scope.now.bytes.now scope.now.recipes.now tokens.now) }
     ensures inside { IfOk result (λ r. r.0 < length scope.now.recipes.now) }
 {
     let at = place(scope.bytes, tokens);
@@ -137,7 +139,8 @@ pub(crate) fn session<'a>(
     scope: &Scope<'_, '_>,
     tokens: &'a [Token],
 ) -> Result<(u32, &'a [Token]), ParseError>
-    ensures exact { Gives (λ r. (r.0, r.1.now)) result (session_at scope.now.bytes.now scope.now.sessions.now tokens.now) }
+    ensures exact { Gives (λ r.
+        (r.0, r.1.now)) result (session_at scope.now.bytes.now scope.now.sessions.now tokens.now) }
     ensures inside { IfOk result (λ r. r.0 < length scope.now.sessions.now) }
 {
     let at = place(scope.bytes, tokens);

@@ -137,7 +137,8 @@ fn grid_of(params: List<Param>, at: u32) -> Result<Grid, SectionError>
     requires few { length params ≤ 6 }
     requires good { IsTrue (list_all is_good params) }
     ensures few { IfOk result (λ grid. (grid.params ≡ params) × (has_few_points params ≡ true)) }
-    ensures many { IfErr result (λ e. (e ≡ Refused (Plain D5) at (pos 0)) × (has_few_points params ≡ false)) }
+    ensures many { IfErr result (λ e. (e ≡ Refused (Plain D5) at (pos 0))
+        × (has_few_points params ≡ false)) }
 {
     match Grid::of(params) {
         Ok(grid) => Ok(grid),
@@ -155,7 +156,8 @@ fn closed<'a>(
 ) -> Result<(Grid, &'a [Token]), SectionError>
     requires few { length params ≤ length recipe.now.params }
     requires good { IsTrue (list_all is_good params) }
-    ensures exact { Gives (λ r. (r.0.params, r.1.now)) result (closed_at scope.now.bytes.now recipe.now params tokens.now) }
+    ensures exact { Gives (λ r.
+        (r.0.params, r.1.now)) result (closed_at scope.now.bytes.now recipe.now params tokens.now) }
     ensures fits { IfOk result (λ r. IsTrue (grid_fits r.0.params recipe.now)) }
 {
     recipe.known();
@@ -177,8 +179,10 @@ fn read_session<'a>(
     scope: &Scope<'_, '_>,
     tokens: &'a [Token],
 ) -> Result<(SessionDecl, &'a [Token]), SectionError>
-    ensures exact { Gives (λ r. (r.0, r.1.now)) result (session_at scope.now.bytes.now scope.now.programs.now scope.now.recipes.now tokens.now) }
-    ensures fits { IfOk result (λ r. IsTrue (session_fits (length scope.now.programs.now) scope.now.recipes.now r.0)) }
+    ensures exact { Gives (λ r.
+        (r.0, r.1.now)) result (session_at scope.now.bytes.now scope.now.programs.now scope.now.recipes.now tokens.now) }
+    ensures fits { IfOk result (λ r.
+        IsTrue (session_fits (length scope.now.programs.now) scope.now.recipes.now r.0)) }
 {
     let (heading, rest) = begun(scope, tokens)?;
     let recipe = numbered(scope.recipes, heading.recipe);
@@ -205,8 +209,10 @@ fn section<'a>(
 ) -> Result<(SessionDecl, &'a [Token]), SectionError>
     requires cut { IsCut scope.now.bytes.now 0 tokens.now }
     requires from { from ≤ length tokens.now }
-    ensures exact { Gives (λ r. (r.0, r.1.now)) result (session_at scope.now.bytes.now scope.now.programs.now scope.now.recipes.now (drop from tokens.now)) }
-    ensures fits { IfOk result (λ r. IsTrue (session_fits (length scope.now.programs.now) scope.now.recipes.now r.0)) }
+    ensures exact { Gives (λ r.
+        (r.0, r.1.now)) result (session_at scope.now.bytes.now scope.now.programs.now scope.now.recipes.now (drop from tokens.now)) }
+    ensures fits { IfOk result (λ r.
+        IsTrue (session_fits (length scope.now.programs.now) scope.now.recipes.now r.0)) }
     ensures name { IfOk result (λ r. IsTrue (is_name r.0.name)) }
     ensures taken { IfOk result (λ r. length r.1.now + 1 ≤ length tokens.now - from) }
     ensures place { IfErr result (λ e. IsWithin (length scope.now.bytes.now) e) }
@@ -215,18 +221,21 @@ fn section<'a>(
     Ok((session, rest))
 }
 
-/// The session section whose first token, `session`, is token `from`, behind what was declared: the session, or its first refusal.
+/// The session section whose first token, `session`, is token `from`, behind what was declared: the
+/// session, or its first refusal.
 ///
-/// The tokens are those of the bytes. Then the session's program and recipe are among those that were declared, its grid has
-/// the recipe's parameters and a point that meets the conditions between them, `next` is behind `from`, and the place of a
-/// refusal lies in the text or is its end.
+/// The tokens are those of the bytes. Then the session's program and recipe are among those that
+/// were declared, its grid has the recipe's parameters and a point that meets the conditions
+/// between them, `next` is behind `from`, and the place of a refusal lies in the text or is its
+/// end.
 ///
 /// # Errors
 ///
-/// D2 at a token that doesn't fit the grammar; D3 at the name of a program or a recipe that wasn't declared; D4 at a parameter's
-/// name that isn't the recipe's next one, and at the closing brace where one is missing; D5 at the name of a parameter whose
-/// range is none of a grid, once its step was read, and at the closing brace where there are more than 65,536 points; D13 at a
-/// number of repeats that isn't 1 to 9; D14 at the closing brace where no point meets the conditions.
+/// D2 at a token that doesn't fit the grammar; D3 at the name of a program or a recipe that wasn't
+/// declared; D4 at a parameter's name that isn't the recipe's next one, and at the closing brace
+/// where one is missing; D5 at the name of a parameter whose range is none of a grid, once its step
+/// was read, and at the closing brace where there are more than 65,536 points; D13 at a number of
+/// repeats that isn't 1 to 9; D14 at the closing brace where no point meets the conditions.
 #[tactic(auto, using(ch_nestparse::proofs::Ascii::cut_ascii, ch_nestparse::proofs::Cuts::few_tokens))]
 pub fn parse_session(
     alloc: Global,
@@ -238,8 +247,10 @@ pub fn parse_session(
     requires short { length bytes.now < 2 ^ 32 }
     requires cut { IsCut bytes.now 0 tokens.now }
     requires from { from ≤ length tokens.now }
-    ensures exact { Gives (λ p. p) result (section_at bytes.now declared.now.programs.now declared.now.recipes.now tokens.now from) }
-    ensures fits { IfOk result (λ p. IsTrue (session_fits (length declared.now.programs.now) declared.now.recipes.now p.session)) }
+    ensures exact { Gives (λ p.
+        p) result (section_at bytes.now declared.now.programs.now declared.now.recipes.now tokens.now from) }
+    ensures fits { IfOk result (λ p.
+        IsTrue (session_fits (length declared.now.programs.now) declared.now.recipes.now p.session)) }
     ensures name { IfOk result (λ p. IsTrue (is_name p.session.name)) }
     ensures place { IfErr result (λ e. IsWithin (length bytes.now) e) }
     ensures behind { IfOk result (λ p. from < p.next) }

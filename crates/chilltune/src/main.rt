@@ -1,4 +1,5 @@
-//! The program `chilltune`: standard input and standard output around the call that does all the work.
+//! The program `chilltune`: standard input and standard output around the call that does all the
+//! work.
 #![tactic(auto)]
 
 use ch_io::{NoGate, StdSink, StdSource};

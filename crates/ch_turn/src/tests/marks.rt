@@ -56,7 +56,8 @@ impl Marks {
 
     /// Without memory the mark is missing.
     pub fn add(&mut self, mark: Mark)
-        ensures { (more : List Mark) × (self.new.marks.items ≡ self.old.marks.items ++ more) × All (λ m. m.by ≡ mark.by) more }
+        ensures { (more : List Mark) × (self.new.marks.items ≡ self.old.marks.items ++ more)
+            × All (λ m. m.by ≡ mark.by) more }
     {
         let _ = self.marks.push(mark);
     }

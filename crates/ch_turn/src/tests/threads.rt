@@ -46,7 +46,8 @@ fn take_in(turn: &Turn<Marks>, seat: &mut TurnSeat<Marks>, other: TurnSeat<Marks
     turn.join(seat, other);
 }
 
-/// Seats of the numbers k to below n, each in a thread of its own, or in this one where none can be made.
+/// Seats of the numbers k to below n, each in a thread of its own, or in this one where none can be
+/// made.
 pub fn mark_in_threads<R: Threads + Wait + Sync>(
     rt: &R,
     alloc: Global,
@@ -73,8 +74,11 @@ pub fn mark_in_threads<R: Threads + Wait + Sync>(
             ensures { IsIdle turn.entry.now (own_number mine) result }
         { mark_often(rt, turn, mine) },
         move || -> TurnSeat<Marks>
-            requires { IsSync R.row × IsIdle turn.now 65535 seat × ((k + 1 ≤ n) × (n < 65535) × (1000 * n ≤ turns_left seat + 1000 * (k + 1))) × ((x : ℕ) → k + 1 ≤ x → x < n → HasNumber seat x) }
-            ensures { IsIdle turn.entry.now 65535 result × ((x : ℕ) → HasNumber seat x → HasNumber result x) }
+            requires { IsSync R.row × IsIdle turn.now 65535 seat
+                × ((k + 1 ≤ n) × (n < 65535) × (1000 * n ≤ turns_left seat + 1000 * (k + 1)))
+                × ((x : ℕ) → k + 1 ≤ x → x < n → HasNumber seat x) }
+            ensures { IsIdle turn.entry.now 65535 result
+                × ((x : ℕ) → HasNumber seat x → HasNumber result x) }
         { mark_in_threads(rt, alloc, turn, seat, k + 1, n) },
     );
     take_in(turn, &mut rest, back);
