@@ -76,10 +76,13 @@ head_line name entries steps phase =
     ++ codes " phase " ++ phase_text phase ++ codes "\n"
 
 -- a session's head, its entries and its ranks counted from 1, and its best point
-unfoldable pub session_lines : Tuning → SessionPart → List ℕ
-session_lines t part =
-    head_line t.name.now (length part.entries) part.steps part.phase ++ numbered (entry_line t.grid.now.params t.arrays.now) 1 part.entries
-    ++ numbered (rank_line t.grid.now.params) 1 part.ranks ++ best_line t.grid.now.params t.conditions.now part.best
+unfoldable pub part_lines : List ℕ → List Param → List Form → List ArrayDecl → SessionPart → List ℕ
+part_lines name params conditions arrays part =
+    head_line name (length part.entries) part.steps part.phase ++ numbered (entry_line params arrays) 1 part.entries
+    ++ numbered (rank_line params) 1 part.ranks ++ best_line params conditions part.best
+
+abbrev pub session_lines : Tuning → SessionPart → List ℕ
+session_lines t part = part_lines t.name.now t.grid.now.params t.conditions.now t.arrays.now part
 
 -- each point of the part is one of the grid
 abbrev pub best_inside : List Param → Option BestLine → Bool

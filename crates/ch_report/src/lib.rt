@@ -12,5 +12,5 @@ pub use part::{BestLine, EntryLine, Found, RankLine, SessionPart};
 pub use phases::put_phase;
 pub use points::{put_point, put_values};
 pub use refusals::put_refusal;
-pub use session::{Tuning, put_session};
+pub use session::{Tuning, put_best, put_session};
 pub use summaries::summary;

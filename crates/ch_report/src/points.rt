@@ -1,40 +1,14 @@
 //! Points of a grid.
-ghost use Rattle.std.specs.Prelude.{◌≡◌, ◌++◌, IsTrue, OnOk, codes};
-ghost use Rattle.std.specs.List.{flat_map};
+ghost use Rattle.std.specs.Prelude.{◌≡◌, ◌++◌, IsTrue, OnOk};
 ghost use Rattle.ch_grid.specs.Grid.{sizes};
 ghost use Rattle.ch_grid.specs.Points.{is_point};
-ghost use Rattle.ch_print.specs.Lists.{behind, separated};
-ghost use Rattle.ch_print.specs.Numbers.{integer_text};
 ghost use Rattle.ch_report.specs.Points.{point_text, values_text};
 
 use ch_affine::Text;
 use ch_constrain::values_at;
 use ch_grid::Grid;
-use ch_print::put_integer;
+use ch_print::put_integers;
 use std::alloc::{AllocError, Global};
-
-/// Adds values, each behind a comma.
-fn put_more(out: &mut Text, values: &[i64]) -> Result<(), AllocError>
-    ensures { OnOk result (out.new
-        ≡ out.old ++ flat_map (behind (codes ",") integer_text) values.now) }
-{
-    for value in values {
-        out.append(b",")?;
-        put_integer(out, *value)?;
-    }
-    Ok(())
-}
-
-/// Adds values with commas between them.
-fn put_listed(out: &mut Text, values: &[i64]) -> Result<(), AllocError>
-    ensures { OnOk result (out.new ≡ out.old ++ separated (codes ",") integer_text values.now) }
-{
-    let Some((first, rest)) = values.split_first() else {
-        return Ok(());
-    };
-    put_integer(out, *first)?;
-    put_more(out, rest)
-}
 
 /// Adds the values of parameters, as `(3,4)`, and `()` where there are none.
 #[tactic(auto, unfolding(crate::specs::Points::values_text))]
@@ -42,7 +16,7 @@ pub fn put_values(out: &mut Text, values: &[i64]) -> Result<(), AllocError>
     ensures { OnOk result (out.new ≡ out.old ++ values_text values.now) }
 {
     out.append(b"(")?;
-    put_listed(out, values)?;
+    put_integers(out, values)?;
     out.append(b")")
 }
 

@@ -1,12 +1,10 @@
 //! Refusals of recipes.
-ghost use Rattle.std.specs.Prelude.{◌≡◌, ◌++◌, OnOk, codes};
-ghost use Rattle.std.specs.List.{flat_map};
-ghost use Rattle.ch_print.specs.Instances.{subscript_text};
+ghost use Rattle.std.specs.Prelude.{◌≡◌, ◌++◌, OnOk};
 ghost use Rattle.ch_report.specs.Refusals.{buffer_cell, cause_text, cell_of, illegal_text, refusal_text, shape_text};
 
 use ch_affine::Text;
 use ch_nest::{ArrayDecl, Shape};
-use ch_print::{put_buffer, put_cell, put_identity, put_integer, put_number, put_wide};
+use ch_print::{put_buffer, put_cell, put_identity, put_number, put_subscripts, put_wide};
 use ch_script::Refusal;
 use ch_timed::{Cell, Identity};
 use std::alloc::AllocError;
@@ -31,17 +29,6 @@ fn put_shape(out: &mut Text, step: u32, cause: Shape) -> Result<(), AllocError>
     out.append(b": C")?;
     put_number(out, u64::from(cause.code))?;
     put_cause(out, cause)
-}
-
-fn put_subscripts(out: &mut Text, subscripts: &[i64]) -> Result<(), AllocError>
-    ensures { OnOk result (out.new ≡ out.old ++ flat_map subscript_text subscripts.now) }
-{
-    for number in subscripts {
-        out.append(b"[")?;
-        put_integer(out, *number)?;
-        out.append(b"]")?;
-    }
-    Ok(())
 }
 
 /// Adds a cell of the buffer of this number.

@@ -201,8 +201,8 @@ fn put_best_point(
     out.append(b"\n")
 }
 
-/// Adds the line of the best point.
-fn put_best(
+/// Adds the line of the best point: `best at (3,4) cost 42`, or `best none`.
+pub fn put_best(
     alloc: Global,
     out: &mut Text,
     tuning: &Tuning<'_>,
@@ -244,7 +244,7 @@ fn put_head(
 /// Adds the lines of a session: its name with the number of entries, the steps and the round of its
 /// search; each entry; each rank; and the best point. Each point has an index of the grid for each
 /// parameter, and each condition a coefficient.
-#[tactic(auto, unfolding(crate::specs::Sessions::session_lines))]
+#[tactic(auto, unfolding(crate::specs::Sessions::part_lines))]
 pub fn put_session(
     alloc: Global,
     out: &mut Text,

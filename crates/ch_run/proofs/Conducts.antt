@@ -1,12 +1,13 @@
 -- The conduct of a run, by what its words call for.
-use Rattle.std.proofs.Common.{◌≡◌, ◌≢◌, ◌≤◌, ◌⊎◌, ℕ, List, Option, Some, None, IfSome, drop, inl, inr, arith}
+use Rattle.std.proofs.Common.{◌≡◌, ◌≢◌, ◌≤◌, ◌⊎◌, ℕ, List, Option, Some, None, IfSome, ap, drop, inl, inr, arith}
 use Rattle.std.specs.Io.KnownBytes.{Appends}
 use Rattle.ch_io.specs.Faults.{HasRisen}
 use Rattle.ch_io.specs.Streams.{AppendsPart}
 use Rattle.ch_run.specs.Answers.{Answers, AnswersInPart, most_read}
-use Rattle.ch_run.specs.Commands.{command_of, usage}
+use Rattle.ch_run.specs.Requests.{asked_of}
+use Rattle.ch_words.specs.Usage.{usage}
 use Rattle.ch_run.specs.Conduct.{Conduct, Standing}
-use Rattle.ch_run.specs.declared.words.Command.{Command}
+use Rattle.ch_words.specs.declared.request.Request.{Request}
 
 -- the status is none but 2 and 4
 small : (status : ℕ) → (status ≡ 2) ⊎ (status ≡ 4) → status ≤ 5
@@ -25,8 +26,29 @@ no_five : (status : ℕ) → (status ≡ 2) ⊎ (status ≡ 4) → status ≡ 5 
 no_five status (inl e) h = omega (arith, e, h)
 no_five status (inr e) h = omega (arith, e, h)
 
--- no command: the usage line
-pub told_usage : (words : List (List ℕ)) (old new : Standing) (status : ℕ) → command_of words ≡ None → (status ≡ 2) ⊎ (status ≡ 4)
+usable : (status : ℕ) → (status ≡ 2) ⊎ (status ≡ 4) → (status ≡ 2) ⊎ ((status ≡ 4) ⊎ (status ≡ 5))
+usable status (inl e) = inl e
+usable status (inr e) = inr (inl e)
+
+-- no memory to read the words
+pub without_memory : (words : List (List ℕ)) (old new : Standing) (status : ℕ) → status ≡ 5 → new ≡ old → Conduct words old new status
+without_memory words old new status e same = record {
+  known = omega (arith, e);
+  answer = λ l. absurd (omega (arith, e, l));
+  read = λ l. absurd (omega (arith, e, l));
+  usage_line = λ h. absurd (omega (arith, e, h));
+  other_words = λ h. absurd (omega (arith, e, h));
+  usable_words = λ _. inr (inr e);
+  read_fault = λ h. absurd (omega (arith, e, h));
+  read_nothing = λ h. absurd (omega (arith, e, h));
+  write_fault = λ h. absurd (omega (arith, e, h));
+  write_part = λ h. absurd (omega (arith, e, h));
+  usage_part = λ h. absurd (omega (arith, e, h));
+  memory = λ _. ap (λ s. s.taken) same;
+}
+
+-- no request: the usage line
+pub told_usage : (words : List (List ℕ)) (old new : Standing) (status : ℕ) → asked_of words ≡ None → (status ≡ 2) ⊎ (status ≡ 4)
     → (status ≡ 2 → Appends old.taken new.taken usage) → (status ≡ 4 → AppendsPart old.taken new.taken usage) → (status ≡ 4 → HasRisen old.writes_failed new.writes_failed)
     → Conduct words old new status
 told_usage words old new status none known line part cause = record {
@@ -35,7 +57,7 @@ told_usage words old new status none known line part cause = record {
   read = λ l. absurd (large status known l);
   usage_line = line;
   other_words = λ _. none;
-  usable_words = λ _. known;
+  usable_words = λ _. usable status known;
   read_fault = λ h. absurd (no_three status known h);
   read_nothing = λ h. absurd (no_three status known h);
   write_fault = cause;
@@ -44,25 +66,25 @@ told_usage words old new status none known line part cause = record {
   memory = λ h. absurd (no_five status known h);
 }
 
-some_none : {A : Type 0} (c : A) (o : Option A) → o ≡ Some c → o ≡ None → ⊥
+some_none : {A : Type 0} (c : A) (o : Option A) → o ≡ Some r → o ≡ None → ⊥
 some_none c o s n = cc
 
--- a command that was carried out
-pub carried : (words : List (List ℕ)) (c : Command) (old new : Standing) (status : ℕ) → command_of words ≡ Some c → status ≤ 5 → status ≢ 2
-    → (status ≤ 1 → IfSome old.left (λ bytes. Answers c bytes old.taken new.taken status)) → (status ≤ 1 → IfSome old.left (λ bytes. new.left ≡ Some (drop most_read bytes)))
+-- a request that was carried out
+pub carried : (words : List (List ℕ)) (r : Request) (old new : Standing) (status : ℕ) → asked_of words ≡ Some r → status ≤ 5 → status ≢ 2
+    → (status ≤ 1 → IfSome old.left (λ bytes. Answers r bytes old.taken new.taken status)) → (status ≤ 1 → IfSome old.left (λ bytes. new.left ≡ Some (drop most_read bytes)))
     → (status ≡ 3 → HasRisen old.reads_failed new.reads_failed) → (status ≡ 3 → new.taken ≡ old.taken) → (status ≡ 4 → HasRisen old.writes_failed new.writes_failed)
-    → (status ≡ 4 → IfSome old.left (λ bytes. AnswersInPart c bytes old.taken new.taken)) → (status ≡ 5 → new.taken ≡ old.taken) → Conduct words old new status
-carried words c old new status some known other answer read read_fault read_nothing write_fault write_part memory = record {
+    → (status ≡ 4 → IfSome old.left (λ bytes. AnswersInPart r bytes old.taken new.taken)) → (status ≡ 5 → new.taken ≡ old.taken) → Conduct words old new status
+carried words r old new status some known other answer read read_fault read_nothing write_fault write_part memory = record {
   known = known;
   answer = λ l. rw some (answer l);
   read = read;
   usage_line = λ h. absurd (other h);
   other_words = λ h. absurd (other h);
-  usable_words = λ none. absurd (some_none c (command_of words) some none);
+  usable_words = λ none. absurd (some_none r (asked_of words) some none);
   read_fault = read_fault;
   read_nothing = read_nothing;
   write_fault = write_fault;
   write_part = λ h. rw some (write_part h);
-  usage_part = λ h none. absurd (some_none c (command_of words) some none);
+  usage_part = λ h none. absurd (some_none r (asked_of words) some none);
   memory = memory;
 }

@@ -1,6 +1,7 @@
+pub mod Asked
 pub mod Conducts
+pub mod Fit
 pub mod Lines
-pub mod OneWord
 pub mod Outs
 pub mod Pieces
 pub mod Shown

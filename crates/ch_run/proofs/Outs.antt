@@ -6,7 +6,7 @@ use Rattle.std.specs.Io.KnownBytes.{Appends}
 use Rattle.ch_deck.specs.Decks.{deck_of}
 use Rattle.ch_deck.specs.Limits.{most_bytes}
 use Rattle.ch_io.specs.Streams.{AppendsPart}
-use Rattle.ch_run.specs.declared.words.Command.{Command}
+use Rattle.ch_words.specs.declared.request.Request.{Request}
 use Rattle.ch_run.specs.Answers.{Answers, AnswersInPart, IsAnswer, most_read}
 
 -- one byte more than the limit decides
@@ -21,14 +21,14 @@ deck-take all = elim (cases_lt most_bytes (length all)) as (λ _. deck_of (take 
 deck-read : (all read : List ℕ) → read ≡ take most_read all → deck_of read ≡ deck_of all
 deck-read all read r = ap deck_of r ∙ deck-take all
 
-pub answered : (c : Command) (left old new : Option (List ℕ)) (read text : List ℕ) (status : ℕ) → IfSome left (λ all. read ≡ take 1048577 all) → IsAnswer c (deck_of read) status text
-    → Appends old new text → IfSome left (λ bytes. Answers c bytes old new status)
-answered c None old new read text status r a w = tt
-answered c (Some all) old new read text status r a w =
-    record { text = text; answers = subst (λ d. IsAnswer c d status text) (deck-read all read r) a; appended = w }
+pub answered : (q : Request) (left old new : Option (List ℕ)) (read text : List ℕ) (status : ℕ) → IfSome left (λ all. read ≡ take 1048577 all) → IsAnswer q (deck_of read) status text
+    → Appends old new text → IfSome left (λ bytes. Answers q bytes old new status)
+answered q None old new read text status r a w = tt
+answered q (Some all) old new read text status r a w =
+    record { text = text; answers = subst (λ d. IsAnswer q d status text) (deck-read all read r) a; appended = w }
 
-pub answered_part : (c : Command) (left old new : Option (List ℕ)) (read text : List ℕ) (status : ℕ) → IfSome left (λ all. read ≡ take 1048577 all) → IsAnswer c (deck_of read) status text
-    → AppendsPart old new text → IfSome left (λ bytes. AnswersInPart c bytes old new)
-answered_part c None old new read text status r a w = tt
-answered_part c (Some all) old new read text status r a w =
-    record { status = status; text = text; answers = subst (λ d. IsAnswer c d status text) (deck-read all read r) a; appended = w }
+pub answered_part : (q : Request) (left old new : Option (List ℕ)) (read text : List ℕ) (status : ℕ) → IfSome left (λ all. read ≡ take 1048577 all) → IsAnswer q (deck_of read) status text
+    → AppendsPart old new text → IfSome left (λ bytes. AnswersInPart q bytes old new)
+answered_part q None old new read text status r a w = tt
+answered_part q (Some all) old new read text status r a w =
+    record { status = status; text = text; answers = subst (λ d. IsAnswer q d status text) (deck-read all read r) a; appended = w }

@@ -1,40 +1,68 @@
 -- What the program may answer to an input: a status and a text.
-use Rattle.std.specs.Prelude.{◌≡◌, ℕ, List, Option, Result, Ok, Err}
+use Rattle.std.specs.Prelude.{◌≡◌, ℕ, if◌then◌else◌, List, [], Option, Some, None, Result, Ok, Err}
 use Rattle.std.specs.Io.KnownBytes.{Appends}
 use Rattle.ch_deck.specs.Decks.{deck_of}
 use Rattle.ch_deck.specs.Parts.{DeckParts}
-use Rattle.ch_deck.specs.declared.program.Program.{Program}
 use Rattle.ch_deck.specs.declared.refusal.Refused.{Refused}
 use Rattle.ch_deck.specs.Refusals.{refusal_line}
 use Rattle.ch_io.specs.Streams.{AppendsPart}
-use Rattle.ch_run.specs.declared.words.Command.{Command}
-use Rattle.ch_run.specs.declared.words.Command.TheVariants.{Eval, Show}
+use Rattle.ch_lex.specs.declared.error.Code2.{Code2}
+use Rattle.ch_lex.specs.declared.error.Code2.TheVariants.{R2}
 use Rattle.ch_run.specs.EvalText.{eval_text}
 use Rattle.ch_run.specs.ShowText.{ShowsAll}
+use Rattle.ch_search.specs.Searched.{IsSearchText}
+use Rattle.ch_subject.specs.Subjects.{can_judge}
+use Rattle.ch_words.specs.declared.request.Request.{Request}
+use Rattle.ch_words.specs.declared.request.Request.TheVariants.{Eval, Show, Search}
+use Rattle.ch_workload.specs.declared.error.DeckCode.TheVariants.{Plain}
 
--- what a command writes of the programs of a deck
-abbrev pub IsTextOf : Command → List Program → List ℕ → Type 0
-IsTextOf Eval programs text = text ≡ eval_text programs
-IsTextOf Show programs text = ShowsAll programs text
+-- Copies into buffers aren't made yet: where the recipe of a session has one, a command that applies recipes refuses the deck by the code of a
+-- command that isn't known.
+abbrev pub unknown_command : DeckParts → Option Code2
+unknown_command deck = if can_judge deck then None else Some R2
 
--- The status and the text of an accepted deck, or of a refusal. No command looks at recipes, sessions and clients yet.
-abbrev pub IsAnswer : Command → Result DeckParts Refused → ℕ → List ℕ → Type 0
-IsAnswer c (Ok deck) status text = (status ≡ 0) × IsTextOf c deck.programs text
-IsAnswer c (Err refusal) status text = (status ≡ 1) × (text ≡ refusal_line refusal)
+-- why an accepted deck is refused by what is asked of it
+abbrev pub unfit : Request → DeckParts → Option Code2
+unfit Search deck = unknown_command deck
+unfit other deck = None
+
+-- a refusal of the whole input, at no place
+abbrev pub refused_whole : Code2 → Refused
+refused_whole code = record { code = Plain code; spot = None; detail = [] }
+
+-- the status and the text of a refusal
+abbrev pub IsRefused : Refused → ℕ → List ℕ → Type 0
+IsRefused refusal status text = (status ≡ 1) × (text ≡ refusal_line refusal)
+
+-- what is told of a deck: `eval` and `show` look at its programs alone
+abbrev pub IsTold : Request → DeckParts → List ℕ → Type 0
+IsTold (Eval sums) deck text = text ≡ eval_text sums deck.programs
+IsTold (Show at) deck text = ShowsAll deck.programs text
+IsTold Search deck text = IsSearchText deck text
+IsTold other deck text = ⊥
+
+abbrev pub IsToldUnless : Option Code2 → Request → DeckParts → ℕ → List ℕ → Type 0
+IsToldUnless (Some code) r deck status text = IsRefused (refused_whole code) status text
+IsToldUnless None r deck status text = (status ≡ 0) × IsTold r deck text
+
+-- the status and the text of an accepted deck, or of the first refusal
+abbrev pub IsAnswer : Request → Result DeckParts Refused → ℕ → List ℕ → Type 0
+IsAnswer r (Ok deck) status text = IsToldUnless (unfit r deck) r deck status text
+IsAnswer r (Err refusal) status text = IsRefused refusal status text
 
 -- one byte more than an input may have is read, which tells one that is too long
 abbrev pub most_read : ℕ
 most_read = 1048577
 
 -- the answer to these bytes was appended
-pub record Answers (c : Command) (bytes : List ℕ) (old new : Option (List ℕ)) (status : ℕ) : Type 0 where
+pub record Answers (r : Request) (bytes : List ℕ) (old new : Option (List ℕ)) (status : ℕ) : Type 0 where
   pub text : List ℕ
-  pub answers : IsAnswer c (deck_of bytes) status text
+  pub answers : IsAnswer r (deck_of bytes) status text
   pub appended : Appends old new text
 
 -- a front of an answer to these bytes was appended, not all of it
-pub record AnswersInPart (c : Command) (bytes : List ℕ) (old new : Option (List ℕ)) : Type 0 where
+pub record AnswersInPart (r : Request) (bytes : List ℕ) (old new : Option (List ℕ)) : Type 0 where
   pub status : ℕ
   pub text : List ℕ
-  pub answers : IsAnswer c (deck_of bytes) status text
+  pub answers : IsAnswer r (deck_of bytes) status text
   pub appended : AppendsPart old new text

@@ -4,7 +4,8 @@ use Rattle.std.specs.Io.KnownBytes.{Appends}
 use Rattle.ch_io.specs.Faults.{HasRisen}
 use Rattle.ch_io.specs.Streams.{AppendsPart}
 use Rattle.ch_run.specs.Answers.{Answers, AnswersInPart, most_read}
-use Rattle.ch_run.specs.Commands.{command_of, usage}
+use Rattle.ch_run.specs.Requests.{asked_of}
+use Rattle.ch_words.specs.Usage.{usage}
 
 -- What is known of the streams at a time: the bytes that are left to read and those that were taken, where they are told, and
 -- how many calls have failed on either side.
@@ -23,19 +24,19 @@ standing left reads_failed taken writes_failed =
 pub record Conduct (words : List (List ℕ)) (old new : Standing) (status : ℕ) : Type 0 where
   pub known : status ≤ 5
   -- what was written at 0 and 1, and which of the two it is
-  pub answer : status ≤ 1 → IfSome (command_of words) (λ c. IfSome old.left (λ bytes. Answers c bytes old.taken new.taken status))
+  pub answer : status ≤ 1 → IfSome (asked_of words) (λ r. IfSome old.left (λ bytes. Answers r bytes old.taken new.taken status))
   -- all of the input was read, but what is past the limit by more than a byte
   pub read : status ≤ 1 → IfSome old.left (λ bytes. new.left ≡ Some (drop most_read bytes))
-  -- the usage line comes exactly for words that call for no command
+  -- the usage line comes exactly for words that ask for nothing, where there is memory to read them
   pub usage_line : status ≡ 2 → Appends old.taken new.taken usage
-  pub other_words : status ≡ 2 → command_of words ≡ None
-  pub usable_words : command_of words ≡ None → (status ≡ 2) ⊎ (status ≡ 4)
+  pub other_words : status ≡ 2 → asked_of words ≡ None
+  pub usable_words : asked_of words ≡ None → (status ≡ 2) ⊎ ((status ≡ 4) ⊎ (status ≡ 5))
   -- a failed read
   pub read_fault : status ≡ 3 → HasRisen old.reads_failed new.reads_failed
   pub read_nothing : status ≡ 3 → new.taken ≡ old.taken
   -- a failed write, and the front of the text that was written before it
   pub write_fault : status ≡ 4 → HasRisen old.writes_failed new.writes_failed
-  pub write_part : status ≡ 4 → IfSome (command_of words) (λ c. IfSome old.left (λ bytes. AnswersInPart c bytes old.taken new.taken))
-  pub usage_part : status ≡ 4 → command_of words ≡ None → AppendsPart old.taken new.taken usage
+  pub write_part : status ≡ 4 → IfSome (asked_of words) (λ r. IfSome old.left (λ bytes. AnswersInPart r bytes old.taken new.taken))
+  pub usage_part : status ≡ 4 → asked_of words ≡ None → AppendsPart old.taken new.taken usage
   -- want of memory
   pub memory : status ≡ 5 → new.taken ≡ old.taken

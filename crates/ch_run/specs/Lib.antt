@@ -1,4 +1,4 @@
-pub mod Commands
+pub mod Requests
 pub mod Added
 pub mod EvalText
 pub mod ShowText

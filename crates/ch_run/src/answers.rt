@@ -1,15 +1,19 @@
-ghost use Rattle.std.specs.Prelude.{◌≡◌, ◌≤◌, IfOk};
-ghost use Rattle.std.specs.List.{All};
+//! What is answered to an input.
+ghost use Rattle.std.specs.Prelude.{◌≡◌, ◌≤◌, IfOk, None, Ok, Some};
 ghost use Rattle.ch_deck.specs.Decks.{deck_of};
-ghost use Rattle.ch_deck.specs.Programs.{IsProgram};
-ghost use Rattle.ch_deck.specs.Refusals.{refusal_line};
-ghost use Rattle.ch_run.specs.Answers.{IsAnswer, IsTextOf};
+ghost use Rattle.ch_run.specs.Answers.{IsAnswer, IsRefused, IsTold, refused_whole};
+ghost use Rattle.ch_run.specs.Answers.{unfit, unknown_command};
+ghost use Rattle.ch_run.specs.Requests.{answered};
 
 use crate::eval::eval_text;
 use crate::show::show_text;
-use crate::words::Command;
 use ch_affine::Text;
-use ch_deck::{DeckError, Program, Refused, read_deck};
+use ch_deck::{Deck, DeckError, Refused, read_deck};
+use ch_lex::Code2;
+use ch_search::answer as search;
+use ch_subject::can_judge;
+use ch_words::Request;
+use ch_workload::DeckCode;
 use std::alloc::{AllocError, Global};
 
 /// A status, and the text to write.
@@ -19,38 +23,89 @@ pub(crate) struct Answer {
     pub text: Text,
 }
 
-fn text_of(alloc: Global, command: Command, programs: &[Program]) -> Result<Text, AllocError>
-    requires { All IsProgram programs.now }
-    ensures { IfOk result (λ text. IsTextOf command programs.now text) }
+fn unknown_command(deck: &Deck) -> Option<Code2>
+    ensures { result ≡ unknown_command deck.now }
 {
-    match command {
-        Command::Eval => eval_text(alloc, programs),
-        Command::Show => show_text(alloc, programs),
+    if can_judge(deck) {
+        None
+    } else {
+        Some(Code2::R2)
     }
 }
 
-fn refused(alloc: Global, refusal: &Refused) -> Result<Text, AllocError>
-    ensures { IfOk result (λ text. text ≡ refusal_line refusal.now) }
+/// Why an accepted deck is refused by what is asked of it.
+fn unfit(request: &Request, deck: &Deck) -> Option<Code2>
+    ensures { result ≡ unfit request.now deck.now }
+{
+    match request {
+        Request::Search => unknown_command(deck),
+        _ => None,
+    }
+}
+
+/// The answer to a refused input.
+fn refused(alloc: Global, refusal: &Refused) -> Result<Answer, AllocError>
+    ensures { IfOk result (λ a. IsRefused refusal.now a.status a.text) }
 {
     let mut text = Text::new(alloc);
     refusal.put_line(&mut text)?;
-    Ok(text)
+    Ok(Answer { status: 1, text })
 }
 
-/// What a command answers to an input: of a deck it looks at the programs alone.
-pub(crate) fn answer_to(alloc: Global, command: Command, bytes: &[u8]) -> Result<Answer, AllocError>
-    ensures shown { IfOk result (λ a. IsAnswer command (deck_of bytes.now) a.status a.text) }
+/// A refusal of the whole input, at no place.
+fn refused_whole(alloc: Global, code: Code2) -> Refused
+    ensures { result ≡ refused_whole code }
+{
+    Refused {
+        code: DeckCode::Plain(code),
+        spot: None,
+        detail: Text::new(alloc),
+    }
+}
+
+/// What is told of a deck that isn't refused by what is asked of it.
+#[tactic(auto, using(crate::proofs::Fit::known_commands))]
+fn told(alloc: Global, request: &Request, deck: &Deck) -> Result<Text, AllocError>
+    requires fit { unfit request.now deck.now ≡ None }
+    requires asked { answered request.now ≡ Some request.now }
+    ensures { IfOk result (λ text. IsTold request.now deck.now text) }
+{
+    match request {
+        Request::Eval { sums } => eval_text(alloc, *sums, deck.programs()),
+        Request::Show { .. } => show_text(alloc, deck.programs()),
+        Request::Search => search(alloc, deck),
+        _ => unreachable!(),
+    }
+}
+
+/// What is answered to an accepted deck.
+fn answer_of(alloc: Global, request: &Request, deck: &Deck) -> Result<Answer, AllocError>
+    requires asked { answered request.now ≡ Some request.now }
+    ensures told { IfOk result (λ a. IsAnswer request.now (Ok deck.now) a.status a.text) }
+    ensures status { IfOk result (λ a. a.status ≤ 1) }
+{
+    match unfit(request, deck) {
+        Some(code) => refused(alloc, &refused_whole(alloc, code)),
+        None => {
+            let text = told(alloc, request, deck)?;
+            Ok(Answer { status: 0, text })
+        }
+    }
+}
+
+/// What is answered to an input.
+pub(crate) fn answer_to(
+    alloc: Global,
+    request: &Request,
+    bytes: &[u8],
+) -> Result<Answer, AllocError>
+    requires asked { answered request.now ≡ Some request.now }
+    ensures told { IfOk result (λ a. IsAnswer request.now (deck_of bytes.now) a.status a.text) }
     ensures status { IfOk result (λ a. a.status ≤ 1) }
 {
     match read_deck(alloc, bytes) {
         Err(DeckError::Memory) => Err(AllocError),
-        Err(DeckError::Refused(refusal)) => {
-            let text = refused(alloc, &refusal)?;
-            Ok(Answer { status: 1, text })
-        }
-        Ok(deck) => {
-            let text = text_of(alloc, command, deck.programs())?;
-            Ok(Answer { status: 0, text })
-        }
+        Err(DeckError::Refused(refusal)) => refused(alloc, &refusal),
+        Ok(deck) => answer_of(alloc, request, &deck),
     }
 }

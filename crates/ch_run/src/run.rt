@@ -4,12 +4,14 @@ ghost use Rattle.std.specs.Io.KnownBytes.{Appends};
 ghost use Rattle.ch_io.specs.Faults.{HasRisen};
 ghost use Rattle.ch_io.specs.Streams.{AppendsPart};
 ghost use Rattle.ch_run.specs.Answers.{Answers, AnswersInPart, most_read};
-ghost use Rattle.ch_run.specs.Commands.{command_of, usage};
 ghost use Rattle.ch_run.specs.Conduct.{Conduct, standing};
+ghost use Rattle.ch_run.specs.Requests.{answered, asked_of};
+ghost use Rattle.ch_words.specs.Usage.{usage};
 
 use crate::answers::answer_to;
-use crate::words::{Command, command_of};
+use crate::words::asked_of;
 use ch_io::{Gate, ReadError, Sink, Source, read_input, write_all};
+use ch_words::Request;
 use std::alloc::Global;
 use std::sync::Wait;
 use std::thread::Threads;
@@ -35,27 +37,28 @@ fn write_usage<K: Sink>(sink: &mut K) -> u8
 /// Reads the input, answers it, and writes the text.
 fn carried_out<S: Source, K: Sink>(
     alloc: Global,
-    command: Command,
+    request: &Request,
     source: &mut S,
     sink: &mut K,
 ) -> u8
+    requires asked { answered request.now ≡ Some request.now }
     ensures known { result ≤ 5 }
     ensures words { result ≢ 2 }
     ensures answer { result ≤ 1 → IfSome (S.left source.old) (λ bytes.
-        Answers command bytes (K.taken sink.old) (K.taken sink.new) result) }
+        Answers request.now bytes (K.taken sink.old) (K.taken sink.new) result) }
     ensures read { result ≤ 1 → IfSome (S.left source.old) (λ bytes.
         S.left source.new ≡ Some (drop most_read bytes)) }
     ensures read_fault { result ≡ 3 → HasRisen (S.faults source.old) (S.faults source.new) }
     ensures read_nothing { result ≡ 3 → K.taken sink.new ≡ K.taken sink.old }
     ensures write_fault { result ≡ 4 → HasRisen (K.faults sink.old) (K.faults sink.new) }
     ensures write_part { result ≡ 4 → IfSome (S.left source.old) (λ bytes.
-        AnswersInPart command bytes (K.taken sink.old) (K.taken sink.new)) }
+        AnswersInPart request.now bytes (K.taken sink.old) (K.taken sink.new)) }
     ensures memory { result ≡ 5 → K.taken sink.new ≡ K.taken sink.old }
 {
     match read_input(alloc, source, MOST_READ) {
         Err(ReadError::Failed) => 3,
         Err(ReadError::Memory) => 5,
-        Ok(bytes) => match answer_to(alloc, command, &bytes) {
+        Ok(bytes) => match answer_to(alloc, request, &bytes) {
             Err(_) => 5,
             Ok(answer) => match write_all(sink, answer.text.as_bytes()) {
                 Ok(()) => answer.status,
@@ -69,10 +72,10 @@ fn carried_out<S: Source, K: Sink>(
 /// for nobody.
 ///
 /// `words` are those after the program's name. The status is 0 where the text was written, 1 where
-/// the refusal of the input was, 2 where the words are none of a command (the usage line was
-/// written, and nothing was read), 3 where a read failed, 4 where a write failed, and 5 where there
+/// the refusal of the input was, 2 where the words ask for nothing that is answered (the usage
+/// line was written, and nothing was read), 3 where a read failed, 4 where a write failed, and 5 where there
 /// was not enough memory.
-#[tactic(auto, using(crate::proofs::Conducts::told_usage, crate::proofs::Conducts::carried))]
+#[tactic(auto, using(crate::proofs::Conducts::told_usage, crate::proofs::Conducts::without_memory, crate::proofs::Conducts::carried))]
 pub fn still<S: Source, K: Sink>(
     alloc: Global,
     words: &[String],
@@ -82,11 +85,12 @@ pub fn still<S: Source, K: Sink>(
     ensures conduct { Conduct (map string_bytes words.now)
         (standing (S.left source.old) (S.faults source.old) (K.taken sink.old) (K.faults sink.old))
         (standing (S.left source.new) (S.faults source.new) (K.taken sink.new) (K.faults sink.new)) result }
-    ensures unread { command_of (map string_bytes words.now) ≡ None → source.new ≡ source.old }
+    ensures unread { asked_of (map string_bytes words.now) ≡ None → source.new ≡ source.old }
 {
-    match command_of(words) {
-        None => write_usage(sink),
-        Some(command) => carried_out(alloc, command, source, sink),
+    match asked_of(alloc, words) {
+        Err(_) => 5,
+        Ok(None) => write_usage(sink),
+        Ok(Some(request)) => carried_out(alloc, &request, source, sink),
     }
 }
 
@@ -104,7 +108,7 @@ pub fn top<R: Threads + Wait + Sync, S: Source, K: Sink, G: Gate + Sync>(
     ensures conduct { Conduct (map string_bytes words.now)
         (standing (S.left source.old) (S.faults source.old) (K.taken sink.old) (K.faults sink.old))
         (standing (S.left source.new) (S.faults source.new) (K.taken sink.new) (K.faults sink.new)) result }
-    ensures unread { command_of (map string_bytes words.now) ≡ None → source.new ≡ source.old }
+    ensures unread { asked_of (map string_bytes words.now) ≡ None → source.new ≡ source.old }
 {
     let _ = rt;
     let _ = gate;

@@ -1,34 +1,38 @@
-ghost use Rattle.std.specs.Prelude.{◌≡◌, map};
+//! What the words ask for.
+ghost use Rattle.std.specs.Prelude.{◌≡◌, IfOk, IfSome, Some, map};
 ghost use Rattle.std.specs.String.{string_bytes};
-ghost use Rattle.ch_run.specs.Commands.{command_of, named_command};
+ghost use Rattle.ch_run.specs.Requests.{answered, asked_of, shown_at};
 
-/// What the program is asked to do with a deck.
-#[derive(Clone, Copy, Debug, PartialEq, Eq)]
-pub enum Command {
-    /// Print each program's arrays after one run of its nest.
-    Eval,
-    /// Print each program's pieces and generated code.
-    Show,
-}
+use ch_words::{List, Request, read_words};
+use std::alloc::{AllocError, Global};
 
-fn named_command(word: &str) -> Option<Command>
-    ensures { result ≡ named_command word.now }
+/// `show` at the centre alone, since it shows programs and no recipes yet.
+fn shown_at(at: Option<List<i64>>) -> Option<Request>
+    ensures { result ≡ shown_at at }
 {
-    if word == "eval" {
-        Some(Command::Eval)
-    } else if word == "show" {
-        Some(Command::Show)
-    } else {
-        None
+    match at {
+        None => Some(Request::Show { at: None }),
+        Some(_) => None,
     }
 }
 
-/// The command that these words, which stand after the program's name, call for.
-pub(crate) fn command_of(words: &[String]) -> Option<Command>
-    ensures { result ≡ command_of (map string_bytes words.now) }
+/// The request, where it is answered yet.
+fn answered(request: Request) -> Option<Request>
+    ensures { result ≡ answered request }
 {
-    match words {
-        [word] => named_command(word.as_str()),
+    match request {
+        Request::Eval { sums } => Some(Request::Eval { sums }),
+        Request::Show { at } => shown_at(at),
+        Request::Search => Some(Request::Search),
         _ => None,
     }
+}
+
+/// What these words, which stand after the program's name, ask for, where that is answered yet.
+#[tactic(auto, using(crate::proofs::Asked::asked_is_answered))]
+pub(crate) fn asked_of(alloc: Global, words: &[String]) -> Result<Option<Request>, AllocError>
+    ensures exact { IfOk result (λ request. request ≡ asked_of (map string_bytes words.now)) }
+    ensures answered { IfOk result (λ request. IfSome request (λ r. answered r ≡ Some r)) }
+{
+    Ok(read_words(alloc, words)?.and_then(answered))
 }

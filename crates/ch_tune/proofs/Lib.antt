@@ -1,2 +1,3 @@
 mod Following
 mod Judging
+pub mod Unique
