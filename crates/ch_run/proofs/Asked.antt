@@ -1,5 +1,5 @@
 -- What is asked for is answered.
-use Rattle.std.proofs.Common.{◌≡◌, ℕ, ℤ, List, Option, Some, None, sym, ap, subst, cc}
+use Rattle.std.proofs.Common.{◌≡◌, ℕ, ℤ, true, false, List, Option, Some, None, sym, ap, subst, cc}
 use Rattle.std.specs.Prelude.{IfSome, option_and_then}
 use Rattle.ch_run.specs.Requests.{answered, asked_of}
 use Rattle.ch_words.specs.Requests.{request_of}
@@ -7,7 +7,8 @@ use Rattle.ch_words.specs.declared.request.Request.{Request}
 use Rattle.ch_words.specs.declared.request.Request.TheVariants.{Eval, Check, Show, Search, Run, Replay, Demo}
 
 same : (q r : Request) → answered q ≡ Some r → q ≡ r
-same (Eval sums) r h = cc
+same (Eval false) r h = cc
+same (Eval true) r h = absurd cc
 same (Check at) r h = absurd cc
 same (Show None) r h = cc
 same (Show (Some values)) r h = absurd cc

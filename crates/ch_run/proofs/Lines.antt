@@ -1,5 +1,5 @@
 -- Lines of arrays, one after the other.
-use Rattle.std.proofs.Common.{◌≡◌, ℕ, zero, suc, ◌+◌, ◌<◌, ◌≤◌, ◌^◌, nat_le, Bool, ℤ, List, [], ◌∷◌, ◌++◌, get_or, take, drop, length, arith, append_assoc, ◌∙◌}
+use Rattle.std.proofs.Common.{◌≡◌, ℕ, zero, suc, ◌+◌, ◌<◌, ◌≤◌, ◌^◌, nat_le, ℤ, List, [], ◌∷◌, ◌++◌, get_or, take, drop, length, arith, append_assoc, ◌∙◌}
 use Rattle.std.specs.Bool.{IsTrue}
 use Rattle.std.specs.List.{list_all}
 use Rattle.std.proofs.lemmas.Bool.{and_parts, leb-true}
@@ -10,11 +10,11 @@ use Rattle.ch_nest.specs.Shape.{arrays_fit, is_array}
 use Rattle.ch_nest.proofs.Places.{extents_some}
 use Rattle.ch_run.specs.EvalText.{array_line, array_lines}
 
-pub lines_more : (sums : Bool) (ds : List ArrayDecl) (k : ℕ) (d : ArrayDecl) (rest : List ℤ) (out next whole : List ℕ) (n : ℕ) → k < length ds → n ≡ cells_in (get_or ds k d).extents
-    → next ≡ out ++ array_line sums (get_or ds k d) (take n rest) → out ++ array_lines sums (drop k ds) rest ≡ whole → next ++ array_lines sums (drop (k + 1) ds) (drop n rest) ≡ whole
-lines_more sums ds k d rest out next whole n l e f h =
+pub lines_more : (ds : List ArrayDecl) (k : ℕ) (d : ArrayDecl) (rest : List ℤ) (out next whole : List ℕ) (n : ℕ) → k < length ds → n ≡ cells_in (get_or ds k d).extents
+    → next ≡ out ++ array_line (get_or ds k d) (take n rest) → out ++ array_lines (drop k ds) rest ≡ whole → next ++ array_lines (drop (k + 1) ds) (drop n rest) ≡ whole
+lines_more ds k d rest out next whole n l e f h =
     let a = rw (drop_more ds k d l, ← e) at h in
-    rw f (append_assoc out (array_line sums (get_or ds k d) (take n rest)) (array_lines sums (drop (k + 1) ds) (drop n rest)) ∙ a)
+    rw f (append_assoc out (array_line (get_or ds k d) (take n rest)) (array_lines (drop (k + 1) ds) (drop n rest)) ∙ a)
 
 most_at : (ds : List ArrayDecl) (k : ℕ) (d : ArrayDecl) → k < length ds → cells_in (get_or ds k d).extents ≤ total (extents_of ds)
 most_at [] k d l = absurd (omega arith)

@@ -36,7 +36,7 @@ IsRefused refusal status text = (status ≡ 1) × (text ≡ refusal_line refusal
 
 -- what is told of a deck: `eval` and `show` look at its programs alone
 abbrev pub IsTold : Request → DeckParts → List ℕ → Type 0
-IsTold (Eval sums) deck text = text ≡ eval_text sums deck.programs
+IsTold (Eval sums) deck text = text ≡ eval_text deck.programs
 IsTold (Show at) deck text = ShowsAll deck.programs text
 IsTold Search deck text = IsSearchText deck text
 IsTold other deck text = ⊥

@@ -1,7 +1,7 @@
-ghost use Rattle.std.specs.Prelude.{◌≡◌, ◌≤◌, ◌++◌, ◌^◌, pos, map, length, take, drop, IsTrue, OnOk};
+ghost use Rattle.std.specs.Prelude.{◌≡◌, ◌++◌, pos, map, take, drop, IsTrue, OnOk};
 ghost use Rattle.std.specs.List.{flat_map};
 ghost use Rattle.ch_nest.specs.Shape.{arrays_fit};
-ghost use Rattle.ch_run.specs.EvalText.{array_line, array_lines, cells_text, element_text, extent_text, sum_of};
+ghost use Rattle.ch_run.specs.EvalText.{array_line, array_lines, element_text, extent_text};
 
 use ch_affine::Text;
 use ch_nest::{ArrayDecl, cells_in};
@@ -51,43 +51,15 @@ pub(crate) fn put_places(out: &mut Text, places: &[u32]) -> Result<(), AllocErro
     Ok(())
 }
 
-/// The sum of the elements, each times its place counted from 1, as it wraps round.
-fn sum_of(cells: &[i64]) -> i64
-    requires { length cells.now ≤ 2 ^ 40 }
-    ensures { result ≡ sum_of cells.now }
-{
-    let mut sum: i64 = 0;
-    let mut place: i64 = 1;
-    for z in cells {
-        sum = sum.wrapping_add(place.wrapping_mul(*z));
-        place += 1;
-    }
-    sum
-}
-
-/// Adds an array's elements, or their sum alone.
-fn put_cells(out: &mut Text, sums: bool, cells: &[i64]) -> Result<(), AllocError>
-    requires { length cells.now ≤ 2 ^ 40 }
-    ensures { OnOk result (out.new ≡ out.old ++ cells_text sums cells.now) }
-{
-    if sums {
-        out.append(b" sum ")?;
-        put_integer(out, sum_of(cells))
-    } else {
-        out.append(b":")?;
-        put_elements(out, cells)
-    }
-}
-
-/// Adds an array's name, its extents, and its elements or their sum, in a line.
+/// Adds an array's name, extents and elements, in a line.
 #[tactic(auto, unfolding(crate::specs::EvalText::array_line))]
-fn put_array(out: &mut Text, sums: bool, array: &ArrayDecl, cells: &[i64]) -> Result<(), AllocError>
-    requires { length cells.now ≤ 2 ^ 40 }
-    ensures { OnOk result (out.new ≡ out.old ++ array_line sums array.now cells.now) }
+fn put_array(out: &mut Text, array: &ArrayDecl, cells: &[i64]) -> Result<(), AllocError>
+    ensures { OnOk result (out.new ≡ out.old ++ array_line array.now cells.now) }
 {
     out.append(array.name.as_bytes())?;
     put_extents(out, array.extents.as_slice())?;
-    put_cells(out, sums, cells)?;
+    out.append(b":")?;
+    put_elements(out, cells)?;
     out.append(b"\n")
 }
 
@@ -103,17 +75,16 @@ fn parted(cells: &[i64], count: usize) -> (&[i64], &[i64])
 #[tactic(auto, using(crate::proofs::Lines::lines_more))]
 pub(crate) fn put_arrays(
     out: &mut Text,
-    sums: bool,
     arrays: &[ArrayDecl],
     cells: &[i64],
 ) -> Result<(), AllocError>
     requires { IsTrue (arrays_fit arrays.now) }
-    ensures { OnOk result (out.new ≡ out.old ++ array_lines sums arrays.now cells.now) }
+    ensures { OnOk result (out.new ≡ out.old ++ array_lines arrays.now cells.now) }
 {
     let mut rest = cells;
     for array in arrays {
         let (own, others) = parted(rest, cells_in(array.extents.as_slice()));
-        put_array(out, sums, array, own)?;
+        put_array(out, array, own)?;
         rest = others;
     }
     Ok(())

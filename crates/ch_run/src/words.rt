@@ -1,10 +1,21 @@
 //! What the words ask for.
 ghost use Rattle.std.specs.Prelude.{◌≡◌, IfOk, IfSome, Some, map};
 ghost use Rattle.std.specs.String.{string_bytes};
-ghost use Rattle.ch_run.specs.Requests.{answered, asked_of, shown_at};
+ghost use Rattle.ch_run.specs.Requests.{answered, asked_of, evaluated, shown_at};
 
 use ch_words::{List, Request, read_words};
 use std::alloc::{AllocError, Global};
+
+/// `eval` of all elements alone, since it prints no sums yet.
+fn evaluated(sums: bool) -> Option<Request>
+    ensures { result ≡ evaluated sums }
+{
+    if sums {
+        None
+    } else {
+        Some(Request::Eval { sums: false })
+    }
+}
 
 /// `show` at the centre alone, since it shows programs and no recipes yet.
 fn shown_at(at: Option<List<i64>>) -> Option<Request>
@@ -21,7 +32,7 @@ fn answered(request: Request) -> Option<Request>
     ensures { result ≡ answered request }
 {
     match request {
-        Request::Eval { sums } => Some(Request::Eval { sums }),
+        Request::Eval { sums } => evaluated(sums),
         Request::Show { at } => shown_at(at),
         Request::Search => Some(Request::Search),
         _ => None,

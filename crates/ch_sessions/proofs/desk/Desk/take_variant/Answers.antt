@@ -1,0 +1,5 @@
+use Rattle.ch_sessions.proofs.Knowing.{stays_after}
+use Rattle.ch_sessions.proofs.desk.Desk.take_variant.Goals as goal
+
+pub returns : goal.returns
+returns g c = stays_after _ _ _ _ _ _ c.fetch.ensures.turn.1 c.requires.fits
