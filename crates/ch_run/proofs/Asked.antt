@@ -1,5 +1,5 @@
 -- What is asked for is answered.
-use Rattle.std.proofs.Common.{◌≡◌, ℕ, ℤ, true, false, List, Option, Some, None, sym, ap, subst, cc}
+use Rattle.std.proofs.Common.{◌≡◌, ℕ, ℤ, true, false, List, Option, Some, None, sym, subst}
 use Rattle.std.specs.Prelude.{IfSome, option_and_then}
 use Rattle.ch_run.specs.Requests.{answered, asked_of}
 use Rattle.ch_words.specs.Requests.{request_of}

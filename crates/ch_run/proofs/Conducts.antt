@@ -66,7 +66,7 @@ told_usage words old new status none known line part cause = record {
   memory = λ h. absurd (no_five status known h);
 }
 
-some_none : {A : Type 0} (c : A) (o : Option A) → o ≡ Some r → o ≡ None → ⊥
+some_none : {A : Type 0} (c : A) (o : Option A) → o ≡ Some c → o ≡ None → ⊥
 some_none c o s n = cc
 
 -- a request that was carried out
