@@ -1,0 +1,5 @@
+pub mod Sessions
+pub mod Checked
+pub mod Added
+pub mod PieceText
+pub mod Shown

@@ -1,0 +1,6 @@
+mod Decks
+mod Forms
+mod Made
+mod Sizes
+mod Tiles
+mod Unrolled

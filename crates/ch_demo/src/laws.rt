@@ -1,0 +1,9 @@
+//! Laws of the definitions, each carried by a function without arguments that does nothing.
+ghost use Rattle.std.specs.Prelude.{ℕ};
+ghost use Rattle.ch_deck.specs.Parts.{IsDeck};
+ghost use Rattle.ch_demo.specs.Generated.{generated};
+
+/// What is made from a number is a deck, as a reader of decks might have read it.
+pub fn generated_decks_are_decks()
+    ensures { (number : ℕ) → IsDeck (generated number) }
+{}
