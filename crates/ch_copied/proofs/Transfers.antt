@@ -2,10 +2,10 @@
 use Rattle.std.proofs.Common.{◌≡◌, refl, sym, ap, ap₂, ◌∙◌, subst, ℕ, suc, ℤ, true, List, [], ◌∷◌, map, take, inl, inr}
 use Rattle.std.specs.List.{filter, flat_map}
 use Rattle.std.proofs.lemmas.Bool.{and_from, and_parts, eqb-true}
-use Rattle.ch_affine.specs.Form.{Form}
 use Rattle.ch_nest.specs.declared.nest.Access.{Access}
 use Rattle.ch_nest.specs.declared.nest.Body.{Body}
-use Rattle.ch_nest.specs.declared.nest.Sub.{Sub}
+use Rattle.ch_order.specs.Accesses.{same_access}
+use Rattle.ch_order.proofs.Accesses.{same_access_is}
 use Rattle.ch_timed.specs.declared.element.Element.{Element}
 use Rattle.ch_timed.specs.Members.{In}
 use Rattle.ch_timed.specs.Conflict.{reads}
@@ -13,32 +13,12 @@ use Rattle.ch_timed.specs.Timed.{pieces}
 use Rattle.ch_timed.specs.Vectors.{places, same_numbers, shares}
 use Rattle.ch_timed.proofs.ClosedUp.{its_piece}
 use Rattle.ch_timed.proofs.Orders.{in_map, map_in}
-use Rattle.ch_copied.specs.Accesses.{names, read_accesses, same_access, same_form, same_sub, same_subs, written_accesses}
+use Rattle.ch_copied.specs.Accesses.{names, read_accesses, written_accesses}
 use Rattle.ch_copied.specs.Uses.{Transfer, Use, same_use, transfers, use_of, uses, with_places}
 use Rattle.ch_copied.proofs.Different.{different_in, in_different}
 use Rattle.ch_copied.proofs.Lists.{filter_in, first_member, flat_in, in_filter, in_flat, in_take}
 use Rattle.ch_copied.proofs.Runs.{eq_is}
 use Rattle.ch_copied.proofs.Sharing.{are_numbers, numbers_are, numbers_self}
-
-form_is : (f g : Form) → same_form f g ≡ true → f ≡ g
-form_is f g h =
-    let p = and_parts _ _ h in
-    let a = numbers_are _ _ p.0 in
-    let b = eq_is _ _ p.1 in
-    λ i. record { coefs = a i; constant = b i }
-
-sub_is : (s t : Sub) → same_sub s t ≡ true → s ≡ t
-sub_is s t h =
-    let p = and_parts _ _ h in
-    let a = form_is _ _ p.0 in
-    let b = eqb-true _ _ p.1 in
-    λ i. record { form = a i; modulus = b i }
-
-subs_are : (ss ts : List Sub) → same_subs ss ts ≡ true → ss ≡ ts
-subs_are [] [] h = refl
-subs_are [] (t ∷ ts) h = cc
-subs_are (s ∷ ss) [] h = cc
-subs_are (s ∷ ss) (t ∷ ts) h = let p = and_parts _ _ h in ap₂ (λ x xs. x ∷ xs) (sub_is s t p.0) (subs_are ss ts p.1)
 
 pub use_is : (u v : Use) → same_use u v ≡ true → u ≡ v
 use_is u v h =
@@ -50,15 +30,8 @@ use_is u v h =
 pub use_self : (u : Use) → same_use u u ≡ true
 use_self u = and_from _ _ (numbers_self u.prefix) (numbers_self u.cell)
 
-access_is : (a b : Access) → same_access a b ≡ true → a ≡ b
-access_is a b h =
-    let p = and_parts _ _ h in
-    let c = eqb-true _ _ p.0 in
-    let d = subs_are _ _ p.1 in
-    λ i. record { array = c i; subs = d i }
-
 pub read_in : (array : ℕ) (b : Body) (r : Access) → In r (reads b.right) → names array r ≡ true → In r (read_accesses array b)
-read_in array b r i h = different_in same_access access_is (filter (names array) (reads b.right)) r (filter_in (names array) (reads b.right) r i h)
+read_in array b r i h = different_in same_access same_access_is (filter (names array) (reads b.right)) r (filter_in (names array) (reads b.right) r i h)
 
 pub in_read : (array : ℕ) (b : Body) (r : Access) → In r (read_accesses array b) → In r (reads b.right) × (names array r ≡ true)
 in_read array b r i = in_filter (names array) (reads b.right) r (in_different same_access (filter (names array) (reads b.right)) r i)

@@ -8,7 +8,7 @@ use Rattle.std.proofs.lemmas.List.{take_more}
 use Rattle.std.proofs.lemmas.List.Elements.{filter-append}
 use Rattle.std.proofs.lemmas.List.Folds.{list_any-append}
 use Rattle.ch_affine.specs.Form.{Form}
-use Rattle.ch_copied.specs.Accesses.{different, names, read_accesses, same_access, same_form, same_sub, same_subs}
+use Rattle.ch_copied.specs.Accesses.{different, names, read_accesses}
 use Rattle.ch_copied.proofs.Lists.{append_left, append_right, in_append}
 use Rattle.ch_copied.proofs.Runs.{eq_is}
 use Rattle.ch_copied.proofs.Sharing.{numbers_are, numbers_self}
@@ -20,51 +20,6 @@ use Rattle.ch_space.proofs.Membership.{any_from, any_in}
 use Rattle.ch_timed.specs.Conflict.{reads}
 use Rattle.ch_timed.specs.Members.{In}
 
--- accesses are the same where the test says so
-
-form_is : (f g : Form) → same_form f g ≡ true → f ≡ g
-form_is f g h =
-    let p = and_parts _ _ h in
-    let a = numbers_are _ _ p.0 in
-    let b = eq_is _ _ p.1 in
-    λ i. record { coefs = a i; constant = b i }
-
-sub_is : (s t : Sub) → same_sub s t ≡ true → s ≡ t
-sub_is s t h =
-    let p = and_parts _ _ h in
-    let a = form_is _ _ p.0 in
-    let b = eqb-true _ _ p.1 in
-    λ i. record { form = a i; modulus = b i }
-
-subs_are : (ss ts : List Sub) → same_subs ss ts ≡ true → ss ≡ ts
-subs_are [] [] h = refl
-subs_are [] (t ∷ ts) h = cc
-subs_are (s ∷ ss) [] h = cc
-subs_are (s ∷ ss) (t ∷ ts) h = let p = and_parts _ _ h in ap₂ (λ x xs. x ∷ xs) (sub_is s t p.0) (subs_are ss ts p.1)
-
-access_is : (a b : Access) → same_access a b ≡ true → a ≡ b
-access_is a b h =
-    let p = and_parts _ _ h in
-    let c = eqb-true _ _ p.0 in
-    let d = subs_are _ _ p.1 in
-    λ i. record { array = c i; subs = d i }
-
-int_self : (z : ℤ) → int_eq z z ≡ true
-int_self z = grind (arith, ints)
-
-form_self : (f : Form) → same_form f f ≡ true
-form_self f = and_from _ _ (numbers_self f.coefs) (int_self f.constant)
-
-sub_self : (s : Sub) → same_sub s s ≡ true
-sub_self s = and_from _ _ (form_self s.form) (eq-eqb s.modulus s.modulus refl)
-
-subs_self : (ss : List Sub) → same_subs ss ss ≡ true
-subs_self [] = refl
-subs_self (s ∷ ss) = and_from _ _ (sub_self s) (subs_self ss)
-
-access_self : (a : Access) → same_access a a ≡ true
-access_self a = and_from _ _ (eq-eqb a.array a.array refl) (subs_self a.subs)
-
 -- whether the access is there
 
 abbrev known : List Access → Access → Bool
@@ -73,10 +28,10 @@ known kept a = list_any (λ b. same_access b a) kept
 pub known_in : (kept : List Access) (a : Access) → known kept a ≡ true → In a kept
 known_in kept a h =
     let x = any_from (λ b. same_access b a) kept h in
-    subst (λ z. In z kept) (access_is x.0 a x.1.1) x.1.0
+    subst (λ z. In z kept) (same_access_is x.0 a x.1.1) x.1.0
 
 pub in_known : (kept : List Access) (a : Access) → In a kept → known kept a ≡ true
-in_known kept a i = any_in (λ b. same_access b a) kept a i (access_self a)
+in_known kept a i = any_in (λ b. same_access b a) kept a i (same_access_self a)
 
 -- one access more
 
@@ -147,7 +102,7 @@ fresh kept a = not (known kept a)
 known_once : (kept : List Access) (a : Access) → known kept a ≡ true → (y : Access) → fresh kept y ≡ (not (same_access a y) && fresh kept y)
 known_once kept a h y = elim (cases_Bool (same_access a y)) as (λ _. fresh kept y ≡ (not (same_access a y) && fresh kept y)) [
   | inl e ↦
-      let there : known kept y ≡ true = subst (λ z. known kept z ≡ true) (access_is a y e) h in
+      let there : known kept y ≡ true = subst (λ z. known kept z ≡ true) (same_access_is a y e) h in
       let f : fresh kept y ≡ false = ap not there in
       f ∙ sym (ap₂ (λ s t. not s && t) e f)
   | inr e ↦ sym (ap (λ s. not s && fresh kept y) e)

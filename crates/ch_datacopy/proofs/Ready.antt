@@ -5,7 +5,7 @@ use Rattle.std.proofs.lemmas.Bool.{and_parts, eqb-true, ltb-true}
 use Rattle.std.proofs.lemmas.List.{length-map}
 use Rattle.ch_affine.specs.Affine.{IsAtMost, value}
 use Rattle.ch_affine.specs.Form.{Form}
-use Rattle.ch_copied.specs.Accesses.{names, same_access}
+use Rattle.ch_copied.specs.Accesses.{names}
 use Rattle.ch_copied.proofs.Different.{in_different}
 use Rattle.ch_datacopy.specs.declared.cells.Cells.{Cells}
 use Rattle.ch_datacopy.specs.declared.uses.Way.{Way}

@@ -1,7 +1,7 @@
 -- The different members of a list, found one after another.
 use Rattle.std.specs.Prelude.{◌++◌, if◌then◌else◌, Bool, List, [], ◌∷◌}
 use Rattle.std.specs.List.{list_any}
-use Rattle.ch_copied.specs.Accesses.{same_access}
+use Rattle.ch_order.specs.Accesses.{same_access}
 use Rattle.ch_nest.specs.declared.nest.Access.{Access}
 
 -- the access behind these, where it isn't one of them

@@ -89,7 +89,7 @@ pub(crate) struct Needs {
     pub(crate) places: List<List<u32>>,
     pub(crate) deep: usize,
     pub(crate) vars: u32,
-    pub(crate) rows: u32,
+    pub(crate) rows: usize,
 }
 
 #[tactic(auto, using(crate::proofs::Planning::grows_same, crate::proofs::Planning::grows_then, crate::proofs::Planning::grows_more, crate::proofs::Planning::grows_push))]
@@ -149,12 +149,8 @@ fn guard_of(
     ensures rows { OnOk result (length system.now.rows ≤ needs.new.rows) }
     ensures plan { IfOk result (λ plan. plan ≡ GuardPlan system.now around inner) }
 {
-    // A system of more rows would take more memory than there is.
-    let Ok(rows) = u32::try_from(system.rows.len()) else {
-        return Err(AllocError);
-    };
     needs.vars = needs.vars.max(system.vars);
-    needs.rows = needs.rows.max(rows);
+    needs.rows = needs.rows.max(system.rows.len());
     let system = system.copied(alloc)?;
     let inner = Boxed::new(alloc, inner)?;
     Ok(Plan::Guard {

@@ -1,3 +1,4 @@
+pub mod Accesses
 pub mod Agreements
 pub mod Before
 pub mod Clashes

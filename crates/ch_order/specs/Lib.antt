@@ -1,3 +1,4 @@
+pub mod Accesses
 pub mod Legal
 pub mod Agreement
 pub mod Reversed

@@ -21,10 +21,7 @@ pub fn count_instances(alloc: Global, piece: &Piece) -> Result<u64, AllocError>
     ensures { IfOk result (λ n. n ≡ length (instances piece.now)) }
 {
     let system = &piece.system;
-    let Ok(rows) = u32::try_from(system.rows.len()) else {
-        return Err(AllocError);
-    };
-    let mut room = Room::of(alloc, system.vars, rows)?;
+    let mut room = Room::of(alloc, system.vars, system.rows.len())?;
     if !has_point(system, &[], &mut room) {
         return Ok(0);
     }

@@ -22,7 +22,7 @@ pub struct Setting {
     pub places: List<List<u32>>,
     /// The most variables and rows of a guard.
     pub vars: u32,
-    pub rows: u32,
+    pub rows: usize,
 }
 
 /// What is known of the elements so far.

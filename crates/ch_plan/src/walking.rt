@@ -63,7 +63,7 @@ fn passes(setting: &Setting, system: &System, around: usize, point: &[i64], room
 {
     system.known();
     let vars = system.vars as usize;
-    let roomy = system.vars <= setting.vars && system.rows.len() <= setting.rows as usize;
+    let roomy = system.vars <= setting.vars && system.rows.len() <= setting.rows;
     if around > point.len() || around > vars || !roomy {
         return false;
     }

@@ -23,7 +23,7 @@ pub struct Room {
     highs: Vec<i64>,
     others: Vec<i64>,
     space: Vec<i64>,
-    rows: u32,
+    rows: usize,
 }
 
 impl Model for Room {
@@ -39,7 +39,7 @@ impl Model for Room {
 
 impl Room {
     /// Room for systems of at most so many variables and rows.
-    pub fn of(alloc: Global, vars: u32, rows: u32) -> Result<Room, AllocError>
+    pub fn of(alloc: Global, vars: u32, rows: usize) -> Result<Room, AllocError>
         ensures vars { IfOk result (λ r. r.vars ≡ vars) }
         ensures rows { IfOk result (λ r. r.rows ≡ rows) }
     {
@@ -51,7 +51,7 @@ impl Room {
         let half = vec![in alloc; 0i64; count * count]?;
         let mut others = vec![in alloc; 0i64; count * count]?;
         others.extend_from_slice(half.as_slice())?;
-        let space = vec![in alloc; 0i64; space_len(count, rows as usize)]?;
+        let space = vec![in alloc; 0i64; space_len(count, rows)]?;
         Ok(Room {
             lows,
             highs,

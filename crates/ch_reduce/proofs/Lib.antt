@@ -1,4 +1,3 @@
-pub mod Accesses
 pub mod FreePairs
 pub mod Parts
 pub mod Turned

@@ -1,7 +1,8 @@
 -- An accumulation is its cell and a part that has no access of its array.
-use Rattle.std.proofs.Common.{◌≡◌, ap, ◌∙◌, ℕ, nat_eq, ℤ, ◌+ℤ◌, ◌-ℤ◌, neg_ℤ, true, false, ◌&&◌, List, [], ◌∷◌, ◌++◌, map, inl, inr}
+use Rattle.std.proofs.Common.{◌≡◌, ap, ◌∙◌, ℕ, nat_eq, ℤ, ◌+ℤ◌, ◌-ℤ◌, neg_ℤ, Bool, true, false, ◌&&◌, List, [], ◌∷◌, ◌++◌, map, inl, inr}
 use Rattle.std.proofs.lemmas.Bool.{and_parts, or_cases, not-true}
 use Rattle.std.specs.Int.{int_wrap, w64}
+use Rattle.std.specs.List.{list_all}
 use Rattle.std.proofs.Math.IntN.{+ℤ_comm}
 use Rattle.ch_nest.specs.declared.nest.Access.{Access}
 use Rattle.ch_nest.specs.declared.nest.Expr.{Expr, map-Expr}
@@ -14,7 +15,11 @@ use Rattle.ch_timed.specs.Do.{Store, right_value, value_step}
 use Rattle.ch_timed.specs.Flat.{AllInside}
 use Rattle.ch_order.proofs.Commutes.{each_kept}
 use Rattle.ch_reduce.specs.Accumulation.{adds_to, is_of_other, is_read, leaves_out, reads_alone}
-use Rattle.ch_reduce.proofs.Accesses.{all_each, same_access_is}
+use Rattle.ch_order.proofs.Accesses.{same_access_is}
+
+all_each : {X : Type 0} (p : X → Bool) (xs : List X) → list_all p xs ≡ true → Each (λ x. p x ≡ true) xs
+all_each p [] h = tt
+all_each p (x ∷ xs) h = let q = and_parts _ _ h in (q.0, all_each p xs q.1)
 
 inside_parts : (extents : List (List ℕ)) (iters : List ℤ) (xs ys : List Access) → AllInside extents (map (cell_of iters) (xs ++ ys))
     → AllInside extents (map (cell_of iters) xs) × AllInside extents (map (cell_of iters) ys)

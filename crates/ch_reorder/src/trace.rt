@@ -67,10 +67,7 @@ fn least_high(bounds: &[Bound], values: &[i64]) -> i64 {
 
 /// Whether some point of the system begins with the values.
 fn holds(alloc: Global, system: &System, values: &[i64]) -> Result<bool, AllocError> {
-    let Ok(rows) = u32::try_from(system.rows.len()) else {
-        return Ok(false);
-    };
-    let mut room = Room::of(alloc, system.vars, rows)?;
+    let mut room = Room::of(alloc, system.vars, system.rows.len())?;
     if values.len() > system.vars as usize {
         return Ok(false);
     }
