@@ -1,4 +1,5 @@
-ghost use Rattle.std.specs.Prelude.{◌≡◌, ◌≤◌, ◌<◌, ◌^◌, ◌+ℤ◌, ◌*ℤ◌, ◌≤ℤ◌, ◌+◌, ℤ, pos, length, unsigned_abs, Err, IfOk, IfErr, IfSome, IfNone};
+ghost use Rattle.std.specs.Prelude.{◌≡◌, ◌≤◌, ◌<◌, ◌^◌, ◌+ℤ◌, ◌*ℤ◌, ◌≤ℤ◌, ◌+◌, ℤ, pos};
+ghost use Rattle.std.specs.Prelude.{length, unsigned_abs, Err, IfOk, IfErr, IfSome, IfNone};
 ghost use Rattle.std.specs.List.{All, find};
 ghost use Rattle.ch_affine.specs.Affine.{IsAtMost};
 ghost use Rattle.ch_affine.specs.Combined.{combined, combined_coefs, first_wide, is_wide};

@@ -3,7 +3,8 @@
 ghost use Rattle.std.specs.Prelude.{◌≡◌, ◌≤◌, ◌^◌, ◌*◌, ◌+◌, ◌+ℤ◌, length, unsigned_abs};
 ghost use Rattle.std.specs.List.{All};
 ghost use Rattle.ch_affine.specs.Affine.{IsAtMost};
-ghost use Rattle.ch_affine.specs.Corners.{IsGreatestIn, IsLeastIn, greatest_in, greatest_sum, greatest_term, least_in, least_sum, least_term};
+ghost use Rattle.ch_affine.specs.Corners.{IsGreatestIn, IsLeastIn, greatest_in, greatest_sum};
+ghost use Rattle.ch_affine.specs.Corners.{greatest_term, least_in, least_sum, least_term};
 ghost use Rattle.ch_affine.specs.Rows.{IsBox};
 
 use crate::aff::Aff;

@@ -14,16 +14,21 @@ where
 }
 
 impl<V: Made + Drop> Book<V> {
-    ghost use Rattle.std.specs.Prelude.{◌≡◌, ◌≢◌, ◌+◌, ◌^◌, ◌<◌, ◌≤◌, ◌++◌, ◌∷◌, [], ◌⊎◌, ℕ, List, All, IfOk, IsOk, Some, is_some, true};
+    ghost use Rattle.std.specs.Prelude.{◌≡◌, ◌≢◌, ◌+◌, ◌^◌, ◌<◌, ◌≤◌, ◌++◌, ◌∷◌, [], ◌⊎◌};
+    ghost use Rattle.std.specs.Prelude.{ℕ, List, All, IfOk, IsOk, Some, is_some, true};
     ghost use Rattle.ch_turn.specs.History.{IsPrefix, longer};
     ghost use Rattle.ch_turn.specs.Holdings.{entries_of, own_entries, without_number};
     ghost use Rattle.ch_session.specs.History.{game, holds, is_legal, news, trials};
     ghost use Rattle.ch_rank.specs.Search.{point_at};
     ghost use Rattle.ch_session.specs.Growth.{by};
-    ghost use Rattle.ch_session.specs.Replies.{ClaimReply, added_by_claim, FetchReply, added_by_fetch, ReportReply, added_by_report, BuiltFits, BuiltReply, added_by_built, added_by_leave};
+    ghost use Rattle.ch_session.specs.Replies.{ClaimReply, added_by_claim, FetchReply};
+    ghost use Rattle.ch_session.specs.Replies.{added_by_fetch, ReportReply};
+    ghost use Rattle.ch_session.specs.Replies.{added_by_report, BuiltFits, BuiltReply};
+    ghost use Rattle.ch_session.specs.Replies.{added_by_built, added_by_leave};
     ghost use Rattle.ch_session.specs.declared.event.Event.{Event};
     ghost use Rattle.ch_session.specs.declared.event.Event.TheVariants.{Claim, Fetch};
-    ghost use Rattle.ch_book.specs.Books.{IsLastOwn, IsOf, IsTurn, Holds, HoldsAll, first_of, number_of, left_of, owns, reads, seen, with_events};
+    ghost use Rattle.ch_book.specs.Books.{IsLastOwn, IsOf, IsTurn, Holds, HoldsAll, first_of};
+    ghost use Rattle.ch_book.specs.Books.{number_of, left_of, owns, reads, seen, with_events};
 
     /// Claims the least open trial, by one turn. It takes the memory that `built` will need.
     pub fn claim<R: Wait>(

@@ -4,7 +4,8 @@ ghost use Rattle.std.specs.Prelude.{◌≡◌, ◌≤◌, ◌^◌, ◌+ℤ◌, l
 ghost use Rattle.std.specs.List.{All};
 ghost use Rattle.ch_affine.specs.Affine.{IsAtMost};
 ghost use Rattle.ch_affine.specs.Rows.{IsBox, IsSystem};
-ghost use Rattle.ch_codegen.specs.LeastValues.{HoldEverywhere, IsEverywhere, least_sum, least_term, least_value};
+ghost use Rattle.ch_codegen.specs.LeastValues.{HoldEverywhere, IsEverywhere};
+ghost use Rattle.ch_codegen.specs.LeastValues.{least_sum, least_term, least_value};
 
 use ch_affine::wide::{plus, times};
 use ch_affine::{Aff, Range};

@@ -4,7 +4,8 @@ ghost use Rattle.std.specs.Prelude.{◌≡◌, ◌⊎◌, ◌<◌, ◌≤◌, []
 ghost use Rattle.ch_affine.specs.Rows.{IsBox};
 ghost use Rattle.ch_space.specs.Keeps.{AreApart};
 ghost use Rattle.ch_timed.specs.Members.{Each};
-ghost use Rattle.ch_codegen.specs.Parts.{AllPrecede, AreSystems, BeginsSome, Covers, EndsSome, IsRun, Together, place, range_at, Widens};
+ghost use Rattle.ch_codegen.specs.Parts.{AllPrecede, AreSystems, BeginsSome, Covers};
+ghost use Rattle.ch_codegen.specs.Parts.{EndsSome, IsRun, Together, place, range_at, Widens};
 
 use ch_affine::{List, Range};
 use ch_space::Piece;

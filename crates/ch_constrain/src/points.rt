@@ -1,7 +1,8 @@
 //! The points of a grid: their values, whether rows hold there, how far apart they are, and which
 //! one is next.
 
-ghost use Rattle.std.specs.Prelude.{◌≡◌, ◌<◌, ◌≤◌, ◌+◌, ◌^◌, length, slice_get, set, IfOk, IfSome, IsTrue};
+ghost use Rattle.std.specs.Prelude.{◌≡◌, ◌<◌, ◌≤◌, ◌+◌, ◌^◌, length};
+ghost use Rattle.std.specs.Prelude.{slice_get, set, IfOk, IfSome, IsTrue};
 ghost use Rattle.std.specs.List.{All, list_all};
 ghost use Rattle.ch_affine.specs.Affine.{IsAtMost};
 ghost use Rattle.ch_constrain.specs.Nearest.{distance, is_met, point_at, values};

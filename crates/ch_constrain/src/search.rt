@@ -1,6 +1,7 @@
 //! The search for the nearest admissible point.
 
-ghost use Rattle.std.specs.Prelude.{◌≡◌, ◌≤◌, ◌^◌, ◌&&◌, ℕ, List, length, if◌then◌else◌, IfOk, IfSome, IsTrue, MatchOption, Some, false};
+ghost use Rattle.std.specs.Prelude.{◌≡◌, ◌≤◌, ◌^◌, ◌&&◌, ℕ, List, length, if◌then◌else◌};
+ghost use Rattle.std.specs.Prelude.{IfOk, IfSome, IsTrue, MatchOption, Some, false};
 ghost use Rattle.std.specs.List.{All, list_all};
 ghost use Rattle.ch_affine.specs.Affine.{IsAtMost};
 ghost use Rattle.ch_constrain.specs.Nearest.{IsNearest, is_admissible, is_met, nearest, values};

@@ -1,6 +1,7 @@
 //! Laws of the definitions, each carried by a function without arguments that does nothing.
 
-ghost use Rattle.std.specs.Prelude.{◌∷◌, [], ◌++◌, ℤ, ◌≡◌, ◌≢◌, ◌<◌, ℕ, IsTrue, List, length, slice_index_or, take};
+ghost use Rattle.std.specs.Prelude.{◌∷◌, [], ◌++◌, ℤ, ◌≡◌, ◌≢◌, ◌<◌, ℕ, IsTrue};
+ghost use Rattle.std.specs.Prelude.{List, length, slice_index_or, take};
 ghost use Rattle.ch_copied.specs.Copied.{buffer_extents, datacopied};
 ghost use Rattle.ch_copied.specs.Copyable.{HasLoop, IsCopyable};
 ghost use Rattle.ch_copied.specs.Uses.{IsExtent, Use, extents};

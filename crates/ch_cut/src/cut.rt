@@ -1,6 +1,7 @@
 //! The space in which a loop is cut by a form.
 
-ghost use Rattle.std.specs.Prelude.{◌≡◌, ◌+◌, ◌<◌, ◌≤◌, ◌≤ℤ◌, ◌^◌, None, [], ◌∷◌, pos, length, IfOk};
+ghost use Rattle.std.specs.Prelude.{◌≡◌, ◌+◌, ◌<◌, ◌≤◌, ◌≤ℤ◌, ◌^◌};
+ghost use Rattle.std.specs.Prelude.{None, [], ◌∷◌, pos, length, IfOk};
 ghost use Rattle.ch_cut.specs.Cut.{cuts};
 ghost use Rattle.ch_cut.specs.Forms.{IsModest, holds_at};
 ghost use Rattle.ch_moved.specs.Causes.{Answers, no_level, no_piece, too_many};

@@ -1,6 +1,7 @@
 //! What a cut loop leaves of each piece.
 
-ghost use Rattle.std.specs.Prelude.{◌≡◌, ◌≤◌, ◌<◌, ◌++◌, ◌∷◌, [], Some, true, pos, length, map, IfOk, OnOk};
+ghost use Rattle.std.specs.Prelude.{◌≡◌, ◌≤◌, ◌<◌, ◌++◌, ◌∷◌, [], Some};
+ghost use Rattle.std.specs.Prelude.{true, pos, length, map, IfOk, OnOk};
 ghost use Rattle.ch_moved.specs.Room.{HasRoom};
 ghost use Rattle.std.specs.List.{All};
 ghost use Rattle.ch_cut.specs.Forms.{IsModest, holds_at};

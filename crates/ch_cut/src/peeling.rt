@@ -1,6 +1,7 @@
 //! The first turns of a loop taken out of it, or the last ones.
 
-ghost use Rattle.std.specs.Prelude.{◌≡◌, ◌+◌, ◌<◌, ◌≤◌, ◌^◌, ◌<ℤ◌, ◌≤ℤ◌, ◌+ℤ◌, ◌-ℤ◌, None, [], ◌∷◌, ℤ, List, length, pos, negsuc, IfOk};
+ghost use Rattle.std.specs.Prelude.{◌≡◌, ◌+◌, ◌<◌, ◌≤◌, ◌^◌, ◌<ℤ◌, ◌≤ℤ◌, ◌+ℤ◌, ◌-ℤ◌};
+ghost use Rattle.std.specs.Prelude.{None, [], ◌∷◌, ℤ, List, length, pos, negsuc, IfOk};
 ghost use Rattle.ch_affine.specs.Affine.{IsAtMost};
 ghost use Rattle.ch_cut.specs.Cut.{no_count, peel_cause, peeled, peels};
 ghost use Rattle.ch_cut.specs.Forms.{IsModest, holds_at};

@@ -1,9 +1,11 @@
 //! A loop cut by a condition.
 
-ghost use Rattle.std.specs.Prelude.{◌≡◌, ◌+◌, ◌<◌, ◌≤ℤ◌, ◌^◌, None, [], ◌∷◌, nat_le, unsigned_abs, pos, length, IfOk};
+ghost use Rattle.std.specs.Prelude.{◌≡◌, ◌+◌, ◌<◌, ◌≤ℤ◌, ◌^◌, None, [], ◌∷◌};
+ghost use Rattle.std.specs.Prelude.{nat_le, unsigned_abs, pos, length, IfOk};
 ghost use Rattle.std.specs.List.{All};
 ghost use Rattle.ch_affine.specs.Affine.{IsAtMost, form};
-ghost use Rattle.ch_cut.specs.Cut.{large_coefficient, large_constant, names_deeper, split, split_cause};
+ghost use Rattle.ch_cut.specs.Cut.{large_coefficient, large_constant};
+ghost use Rattle.ch_cut.specs.Cut.{names_deeper, split, split_cause};
 ghost use Rattle.ch_cut.specs.Forms.{IsModest};
 ghost use Rattle.ch_moved.specs.Causes.{Answers, first_failing, first_of, no_level, no_piece};
 ghost use Rattle.ch_order.specs.Legal.{AreAmong};

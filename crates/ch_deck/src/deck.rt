@@ -1,6 +1,7 @@
 ghost use Rattle.std.specs.Prelude.{◌≡◌, ◌<◌, ◌^◌, ℕ, [], Some, None, length, map, IfOk};
 ghost use Rattle.std.specs.List.{All};
-ghost use Rattle.ch_deck.specs.Judged.{IsSound, first_unfit, instance_text, program_of, told, unfit};
+ghost use Rattle.ch_deck.specs.Judged.{IsSound, first_unfit, instance_text};
+ghost use Rattle.ch_deck.specs.Judged.{program_of, told, unfit};
 ghost use Rattle.ch_deck.specs.Refusals.{refused_at, value_text};
 ghost use Rattle.ch_deck.specs.Kept.{IsRead};
 ghost use Rattle.ch_lex.specs.Spots.{spot_of};

@@ -1,7 +1,9 @@
 //! The sections of a deck, one after another.
 ghost use Rattle.std.specs.Prelude.{◌≡◌, ◌<◌, ◌≤◌, ◌^◌, ◌+◌, drop, length, IfOk, IsTrue, OnOk};
 ghost use Rattle.ch_deck.specs.Kept.{AreFound};
-ghost use Rattle.ch_deck.specs.Sections.{behind_word, client_from, program_from, recipe_from, section_from, sections_of, session_from, sort_of, word_sort};
+ghost use Rattle.ch_deck.specs.Sections.{behind_word, client_from, program_from};
+ghost use Rattle.ch_deck.specs.Sections.{recipe_from, section_from, sections_of};
+ghost use Rattle.ch_deck.specs.Sections.{session_from, sort_of, word_sort};
 ghost use Rattle.ch_lex.specs.Cut.{IsCut};
 ghost use Rattle.ch_workload.specs.Refusals.{Gives};
 

@@ -2,7 +2,9 @@
 
 ghost use Rattle.std.specs.Prelude.{◌≡◌, ℕ, false, map, IfOk};
 ghost use Rattle.std.specs.List.{All};
-ghost use Rattle.ch_depends.specs.Sought.{Conflicts, IsBest, IsSide, Kept, Meets, Reversed, ReversesBy, SomeOf, is_listed, is_pair, lesser, pair_order, partners_of};
+ghost use Rattle.ch_depends.specs.Sought.{Conflicts, IsBest, IsSide, Kept, Meets};
+ghost use Rattle.ch_depends.specs.Sought.{Reversed, ReversesBy, SomeOf, is_listed};
+ghost use Rattle.ch_depends.specs.Sought.{is_pair, lesser, pair_order, partners_of};
 ghost use Rattle.ch_meeting.specs.Meeting.{AreAccessesOf, ArePlain, IsAccessOf, IsPlain};
 ghost use Rattle.ch_space.specs.Pieces.{element_at, instances};
 ghost use Rattle.ch_timed.specs.Members.{In};

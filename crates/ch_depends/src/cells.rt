@@ -6,7 +6,8 @@ ghost use Rattle.ch_affine.specs.Affine.{IsAtMost};
 ghost use Rattle.ch_depends.specs.Sought.{IsNameable, IsReadable};
 ghost use Rattle.ch_nest.specs.Run.{sub_value};
 ghost use Rattle.ch_space.specs.Keeps.{IsReached, accesses};
-ghost use Rattle.ch_timed.specs.Conflict.{cell_of, cells_of, clash, conflict, has_cell, reads, same_cell, writes_cell};
+ghost use Rattle.ch_timed.specs.Conflict.{cell_of, cells_of, clash, conflict};
+ghost use Rattle.ch_timed.specs.Conflict.{has_cell, reads, same_cell, writes_cell};
 ghost use Rattle.ch_timed.specs.Timed.{step};
 
 use ch_affine::List;

@@ -1,6 +1,7 @@
 //! The cells of a program's arrays.
 
-ghost use Rattle.std.specs.Prelude.{◌≡◌, ◌<◌, ◌+◌, ◌^◌, pos, [], ◌++◌, length, map, take, IfOk, OnErr, OnOk, slice_index_or};
+ghost use Rattle.std.specs.Prelude.{◌≡◌, ◌<◌, ◌+◌, ◌^◌, pos, [], ◌++◌, length};
+ghost use Rattle.std.specs.Prelude.{map, take, IfOk, OnErr, OnOk, slice_index_or};
 ghost use Rattle.ch_nest.specs.Fills.{filled_cells};
 ghost use Rattle.ch_eval.specs.Cells.{joined, sizes_of};
 ghost use Rattle.ch_eval.specs.Made.{CanWalk, cells_after, sum_after};

@@ -7,7 +7,8 @@ ghost use Rattle.ch_code.specs.declared.code.Code.TheVariants.{Leaf};
 ghost use Rattle.ch_timed.specs.declared.element.Label.{Label};
 ghost use Rattle.ch_plan.specs.declared.plan.Plan.TheVariants.{Guard as GuardPlan};
 ghost use Rattle.ch_plan.specs.Ready.{AreBases, HaveDepth, extents_in};
-ghost use Rattle.ch_eval.specs.Made.{AreLimits, ArePlans, Grows, IsLoopOf, IsPlan, IsRight, RightFits};
+ghost use Rattle.ch_eval.specs.Made.{AreLimits, ArePlans, Grows, IsLoopOf};
+ghost use Rattle.ch_eval.specs.Made.{IsPlan, IsRight, RightFits};
 
 use ch_affine::{Boxed, List, System};
 use ch_code::{Bound, Code};

@@ -1,6 +1,7 @@
 //! A unit made ready to run.
 
-ghost use Rattle.std.specs.Prelude.{◌≡◌, ℕ, pos, List, [], ◌∷◌, ◌++◌, length, replicate, IfOk, OnOk};
+ghost use Rattle.std.specs.Prelude.{◌≡◌, ℕ, pos, List, [], ◌∷◌, ◌++◌};
+ghost use Rattle.std.specs.Prelude.{length, replicate, IfOk, OnOk};
 ghost use Rattle.std.specs.Int.{int_wrap, w64};
 ghost use Rattle.ch_code.specs.declared.code.Code.{Code};
 ghost use Rattle.ch_nest.specs.Arrays.{extents_of, total};

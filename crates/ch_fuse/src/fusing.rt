@@ -1,8 +1,10 @@
 //! Loops side by side made one.
 
-ghost use Rattle.std.specs.Prelude.{◌≡◌, ◌+◌, ◌-◌, ◌<◌, ◌≤◌, ◌^◌, None, true, pos, if◌then◌else◌, length, map, take, IfOk, MatchOption};
+ghost use Rattle.std.specs.Prelude.{◌≡◌, ◌+◌, ◌-◌, ◌<◌, ◌≤◌, ◌^◌, None, true, pos};
+ghost use Rattle.std.specs.Prelude.{if◌then◌else◌, length, map, take, IfOk, MatchOption};
 ghost use Rattle.std.specs.Int.{int_min};
-ghost use Rattle.ch_fuse.specs.Fused.{body_width, elsewhere, first_place, fuse_cause, fused, fused_places, fuses, in_groups};
+ghost use Rattle.ch_fuse.specs.Fused.{body_width, elsewhere, first_place, fuse_cause};
+ghost use Rattle.ch_fuse.specs.Fused.{fused, fused_places, fuses, in_groups};
 ghost use Rattle.ch_moved.specs.Arguments.{natural};
 ghost use Rattle.ch_moved.specs.Causes.{first_failing, no_piece, Answers};
 ghost use Rattle.ch_order.specs.Legal.{AreAmong};

@@ -1,4 +1,5 @@
-ghost use Rattle.std.specs.Prelude.{◌≡◌, ℕ, ◌+◌, ◌*◌, ◌<◌, ◌≤◌, not, nat_le, pos, length, slice_get, IfOk, IfErr, IfSome, IsTrue, true, Some, None, All};
+ghost use Rattle.std.specs.Prelude.{◌≡◌, ℕ, ◌+◌, ◌*◌, ◌<◌, ◌≤◌, not, nat_le, pos, length};
+ghost use Rattle.std.specs.Prelude.{slice_get, IfOk, IfErr, IfSome, IsTrue, true, Some, None, All};
 ghost use Rattle.std.specs.List.{position, list_all};
 ghost use Rattle.ch_grid.specs.Grid.{is_within, is_good, size, sizes, value_at, fault_of, clamped};
 ghost use Rattle.ch_grid.specs.Points.{count};

@@ -1,4 +1,5 @@
-ghost use Rattle.std.specs.Prelude.{◌≡◌, ℕ, ◌+◌, ◌*◌, ◌^◌, ◌<◌, ◌≤◌, ◌+ℤ◌, ◌*ℤ◌, pos, unsigned_abs, IsTrue};
+ghost use Rattle.std.specs.Prelude.{◌≡◌, ℕ, ◌+◌, ◌*◌, ◌^◌, ◌<◌, ◌≤◌, ◌+ℤ◌};
+ghost use Rattle.std.specs.Prelude.{◌*ℤ◌, pos, unsigned_abs, IsTrue};
 ghost use Rattle.ch_grid.specs.Grid.{is_small, is_good, size, value_at};
 
 /// One parameter: the values `low`, `low + step`, `low + 2 * step` and so on, as far as `high`.

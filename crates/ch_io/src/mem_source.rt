@@ -1,4 +1,5 @@
-ghost use Rattle.std.specs.Prelude.{◌≡◌, ◌↔◌, ◌<◌, ◌≤◌, ◌++◌, [], length, take, drop, IfOk, IsErr, OnErr, Contains};
+ghost use Rattle.std.specs.Prelude.{◌≡◌, ◌↔◌, ◌<◌, ◌≤◌, ◌++◌, [], length};
+ghost use Rattle.std.specs.Prelude.{take, drop, IfOk, IsErr, OnErr, Contains};
 ghost use Rattle.ch_io.specs.InMemory.{SourceState, read_len, after_read};
 
 use crate::failed::Failed;

@@ -2,7 +2,8 @@
 //! value less some number of turns of the modulus, a variable of its own. One variable is 1, and
 //! carries a constant that has no room beside another.
 
-ghost use Rattle.std.specs.Prelude.{◌≡◌, ◌≤◌, ◌<◌, ◌+◌, ◌^◌, ◌+ℤ◌, ◌-ℤ◌, ◌*ℤ◌, ℤ, pos, List, length, drop, IfOk, IsTrue, OnOk};
+ghost use Rattle.std.specs.Prelude.{◌≡◌, ◌≤◌, ◌<◌, ◌+◌, ◌^◌, ◌+ℤ◌, ◌-ℤ◌, ◌*ℤ◌, ℤ};
+ghost use Rattle.std.specs.Prelude.{pos, List, length, drop, IfOk, IsTrue, OnOk};
 ghost use Rattle.std.specs.List.{All};
 ghost use Rattle.ch_affine.specs.Affine.{IsAtMost, value};
 ghost use Rattle.ch_affine.specs.Rows.{lies_in};

@@ -1,6 +1,7 @@
 //! A system of rows over ranges while it is made, and what the solver says of it.
 
-ghost use Rattle.std.specs.Prelude.{◌≡◌, ◌≤◌, ◌≤ℤ◌, ◌+◌, ◌^◌, ◌+ℤ◌, ◌-ℤ◌, ◌*ℤ◌, ◌++◌, [], neg_ℤ, pos, ℤ, List, length, map, drop, take, IsTrue, IfOk, OnOk};
+ghost use Rattle.std.specs.Prelude.{◌≡◌, ◌≤◌, ◌≤ℤ◌, ◌+◌, ◌^◌, ◌+ℤ◌, ◌-ℤ◌, ◌*ℤ◌, ◌++◌, [], neg_ℤ};
+ghost use Rattle.std.specs.Prelude.{pos, ℤ, List, length, map, drop, take, IsTrue, IfOk, OnOk};
 ghost use Rattle.std.specs.List.{All};
 ghost use Rattle.ch_affine.specs.Affine.{IsAtMost, dot, form, value};
 ghost use Rattle.ch_meeting.specs.Drafts.{IsDraft, IsLeastFit, Narrows, NoneFits, system_of};

@@ -1,9 +1,11 @@
 //! Whether the accesses of an element of one piece and of a later one of another name one cell.
 
-ghost use Rattle.std.specs.Prelude.{◌≡◌, ◌≤◌, ◌<◌, ◌↔◌, ℕ, ℤ, List, length, pos, IfOk, IsTrue, OnOk};
+ghost use Rattle.std.specs.Prelude.{◌≡◌, ◌≤◌, ◌<◌, ◌↔◌, ℕ, ℤ, List};
+ghost use Rattle.std.specs.Prelude.{length, pos, IfOk, IsTrue, OnOk};
 ghost use Rattle.std.specs.List.{All};
 ghost use Rattle.ch_affine.specs.Rows.{lies_in};
-ghost use Rattle.ch_meeting.specs.Asked.{AreMeeting, AsksMeeting, MeetsBy, MeetsByAt, cells_end, meeting_boxes, pair_size};
+ghost use Rattle.ch_meeting.specs.Asked.{AreMeeting, AsksMeeting, MeetsBy, MeetsByAt};
+ghost use Rattle.ch_meeting.specs.Asked.{cells_end, meeting_boxes, pair_size};
 ghost use Rattle.ch_meeting.specs.Cases.{IsWithin, OneOf};
 ghost use Rattle.ch_meeting.specs.Drafts.{IsDraft, Narrows};
 ghost use Rattle.ch_meeting.specs.Meeting.{AreAccessesOf, AreAlike, IsPlain, MeetsAt};

@@ -1,7 +1,8 @@
 //! The ways in which one vector comes before another: the first places and values in which they
 //! agree, and the place or value by which they differ.
 
-ghost use Rattle.std.specs.Prelude.{◌≡◌, ◌≤◌, ◌<◌, ◌+◌, ◌^◌, ◌+ℤ◌, ◌-ℤ◌, ◌++◌, length, map, drop, pos, IfOk, IsTrue, OnOk, ◌↔◌, ℕ, ℤ, List};
+ghost use Rattle.std.specs.Prelude.{◌≡◌, ◌≤◌, ◌<◌, ◌+◌, ◌^◌, ◌+ℤ◌, ◌-ℤ◌, ◌++◌, length};
+ghost use Rattle.std.specs.Prelude.{map, drop, pos, IfOk, IsTrue, OnOk, ◌↔◌, ℕ, ℤ, List};
 ghost use Rattle.std.specs.List.{All};
 ghost use Rattle.ch_affine.specs.Affine.{IsAtMost, value};
 ghost use Rattle.ch_meeting.specs.declared.orders.Order.{Order};

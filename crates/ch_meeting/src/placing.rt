@@ -1,9 +1,11 @@
 //! Pieces among the variables of a draft: their rows, and the iterators that their levels make.
 
-ghost use Rattle.std.specs.Prelude.{◌≡◌, ◌≤◌, ◌<◌, ◌+◌, ◌-◌, ◌+ℤ◌, ◌-ℤ◌, ◌++◌, ℤ, List, length, take, drop, IfOk, OnOk};
+ghost use Rattle.std.specs.Prelude.{◌≡◌, ◌≤◌, ◌<◌, ◌+◌, ◌-◌, ◌+ℤ◌, ◌-ℤ◌, ◌++◌};
+ghost use Rattle.std.specs.Prelude.{ℤ, List, length, take, drop, IfOk, OnOk};
 ghost use Rattle.ch_affine.specs.Affine.{dot, value};
 ghost use Rattle.ch_meeting.specs.Drafts.{IsDraft, Narrows};
-ghost use Rattle.ch_meeting.specs.Placed.{HoldsAt, PairAt, PairTiedAt, TiedAt, pair_boxes, wide, wides};
+ghost use Rattle.ch_meeting.specs.Placed.{HoldsAt, PairAt, PairTiedAt};
+ghost use Rattle.ch_meeting.specs.Placed.{TiedAt, pair_boxes, wide, wides};
 ghost use Rattle.ch_poly.specs.Boxes.{at};
 ghost use Rattle.ch_space.specs.Keeps.{IsWhole};
 

@@ -2,10 +2,13 @@
 
 ghost use Rattle.std.specs.Prelude.{◌≡◌, ◌≤◌, ◌+◌, length, drop, IfOk, OnOk};
 ghost use Rattle.std.specs.List.{All};
-ghost use Rattle.ch_meeting.specs.Asked.{AreInOrders, AreReversalOf, AreTurned, Asks, AsksMeeting, IsReversalAmongOf, IsReversalByOf, IsTurnedAmongOf, boxes_of, lesser, pair_size};
+ghost use Rattle.ch_meeting.specs.Asked.{AreInOrders, AreReversalOf, AreTurned, Asks};
+ghost use Rattle.ch_meeting.specs.Asked.{AsksMeeting, IsReversalAmongOf, IsReversalByOf};
+ghost use Rattle.ch_meeting.specs.Asked.{IsTurnedAmongOf, boxes_of, lesser, pair_size};
 ghost use Rattle.ch_meeting.specs.Cases.{InOrder, IsWithin};
 ghost use Rattle.ch_meeting.specs.Drafts.{IsDraft, Narrows};
-ghost use Rattle.ch_meeting.specs.Meeting.{AreAccessesOf, AreAlike, AreComparable, ArePlain, IsLeastPair, IsPlain, IsReversalOf};
+ghost use Rattle.ch_meeting.specs.Meeting.{AreAccessesOf, AreAlike, AreComparable};
+ghost use Rattle.ch_meeting.specs.Meeting.{ArePlain, IsLeastPair, IsPlain, IsReversalOf};
 
 use crate::draft::Draft;
 use crate::layout::{push_cells, push_pair};

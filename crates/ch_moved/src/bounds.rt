@@ -1,6 +1,7 @@
 //! The rows which say that forms have values in ranges, where the boxes of their variables don't.
 
-ghost use Rattle.std.specs.Prelude.{◌≡◌, ◌≤◌, ◌^◌, ◌+◌, ◌+ℤ◌, ◌-ℤ◌, ◌≤ℤ◌, ◌&&◌, ℤ, List, pos, length, int_le, take, IsTrue, IfOk, OnOk};
+ghost use Rattle.std.specs.Prelude.{◌≡◌, ◌≤◌, ◌^◌, ◌+◌, ◌+ℤ◌, ◌-ℤ◌, ◌≤ℤ◌, ◌&&◌, ℤ, List};
+ghost use Rattle.std.specs.Prelude.{pos, length, int_le, take, IsTrue, IfOk, OnOk};
 ghost use Rattle.std.specs.List.{All};
 ghost use Rattle.ch_affine.specs.Affine.{IsAtMost, value};
 ghost use Rattle.ch_affine.specs.Rows.{IsBox, all_hold, lies_in};

@@ -1,10 +1,12 @@
 //! The causes that several commands share, and the levels of pieces that numbers name.
 
-ghost use Rattle.std.specs.Prelude.{◌≡◌, ◌+◌, ◌*◌, ◌<◌, ◌≤◌, ◌^◌, ◌<ℤ◌, nat_le, not, ◌&&◌, unsigned_abs, None, true, pos, length, IsTrue};
+ghost use Rattle.std.specs.Prelude.{◌≡◌, ◌+◌, ◌*◌, ◌<◌, ◌≤◌, ◌^◌, ◌<ℤ◌, nat_le, not};
+ghost use Rattle.std.specs.Prelude.{◌&&◌, unsigned_abs, None, true, pos, length, IsTrue};
 ghost use Rattle.std.specs.List.{list_any};
 ghost use Rattle.std.specs.Ordering.{int_eq};
 ghost use Rattle.ch_moved.specs.Arguments.{depth, has_level, is_piece, natural};
-ghost use Rattle.ch_moved.specs.Causes.{cause, first_failing, has_twice, named_twice, no_level, no_piece, too_heavy, unshared};
+ghost use Rattle.ch_moved.specs.Causes.{cause, first_failing, has_twice, named_twice};
+ghost use Rattle.ch_moved.specs.Causes.{no_level, no_piece, too_heavy, unshared};
 ghost use Rattle.ch_space.specs.Keeps.{most_weight};
 ghost use Rattle.ch_timed.specs.Groups.{in_group, piece};
 ghost use Rattle.ch_timed.specs.Timed.{pieces};

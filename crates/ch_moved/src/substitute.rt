@@ -1,6 +1,7 @@
 //! Forms of new variables put in place of the first variables of rows.
 
-ghost use Rattle.std.specs.Prelude.{◌≡◌, ◌≤◌, ◌<◌, ◌+◌, ◌^◌, ◌*ℤ◌, ◌+ℤ◌, pos, length, map, ◌++◌, take, IfOk, OnOk, MatchOption};
+ghost use Rattle.std.specs.Prelude.{◌≡◌, ◌≤◌, ◌<◌, ◌+◌, ◌^◌, ◌*ℤ◌, ◌+ℤ◌, pos, length};
+ghost use Rattle.std.specs.Prelude.{map, ◌++◌, take, IfOk, OnOk, MatchOption};
 ghost use Rattle.std.specs.List.{All};
 ghost use Rattle.ch_affine.specs.Affine.{IsAtMost, IsSmall, dot, form};
 ghost use Rattle.ch_moved.specs.Changed.{AllLong};

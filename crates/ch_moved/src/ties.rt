@@ -1,6 +1,7 @@
 //! Rows over new variables and, as hidden ones, the old variables that forms give.
 
-ghost use Rattle.std.specs.Prelude.{◌≡◌, ◌≤◌, ◌+◌, ◌++◌, ◌∷◌, [], pos, negsuc, length, map, IfOk, OnOk};
+ghost use Rattle.std.specs.Prelude.{◌≡◌, ◌≤◌, ◌+◌, ◌++◌, ◌∷◌, [], pos};
+ghost use Rattle.std.specs.Prelude.{negsuc, length, map, IfOk, OnOk};
 ghost use Rattle.std.specs.List.{All};
 ghost use Rattle.ch_affine.specs.Affine.{IsAtMost};
 ghost use Rattle.ch_moved.specs.Changed.{AllLong, IsOver, StandOver};

@@ -1,11 +1,15 @@
 //! The boxes of loops, and the least and greatest values of forms over them.
 
-ghost use Rattle.std.specs.Prelude.{◌≡◌, ◌≤◌, ◌<◌, ◌^◌, ◌*◌, ◌+◌, ◌+ℤ◌, ◌*ℤ◌, ◌∷◌, [], ◌++◌, length, unsigned_abs, take, map, IsTrue, MatchOption, true, false};
+ghost use Rattle.std.specs.Prelude.{◌≡◌, ◌≤◌, ◌<◌, ◌^◌, ◌*◌, ◌+◌, ◌+ℤ◌, ◌*ℤ◌};
+ghost use Rattle.std.specs.Prelude.{◌∷◌, [], ◌++◌, length, unsigned_abs, take};
+ghost use Rattle.std.specs.Prelude.{map, IsTrue, MatchOption, true, false};
 ghost use Rattle.std.specs.List.{All, list_all};
 ghost use Rattle.ch_affine.specs.Affine.{IsAtMost};
 ghost use Rattle.ch_nest.specs.Limits.{deepest, most_affine};
 ghost use Rattle.ch_nest.specs.Run.{least};
-ghost use Rattle.ch_nest.specs.Shape.{box_of, coefs_fit, greatest_in, greatest_sum, greatest_term, high_end, is_at_most, is_small, least_in, least_sum, least_term, low_end, IsSmall};
+ghost use Rattle.ch_nest.specs.Shape.{box_of, coefs_fit, greatest_in, greatest_sum};
+ghost use Rattle.ch_nest.specs.Shape.{greatest_term, high_end, is_at_most, is_small};
+ghost use Rattle.ch_nest.specs.Shape.{least_in, least_sum, least_term, low_end, IsSmall};
 
 use crate::limits::MOST_AFFINE;
 use ch_affine::{Aff, Range};

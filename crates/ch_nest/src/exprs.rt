@@ -1,6 +1,8 @@
 ghost use Rattle.std.specs.Prelude.{◌≡◌, ◌<◌, ◌≤◌, ◌&&◌, min};
 ghost use Rattle.std.specs.List.{list_all};
-ghost use Rattle.ch_nest.specs.Shape.{access_fits, body_fits, expr_fits, has_dimensions, inside, is_at_most, is_operand, is_term, nested, operands, parts_fit, sub_fits};
+ghost use Rattle.ch_nest.specs.Shape.{access_fits, body_fits, expr_fits};
+ghost use Rattle.ch_nest.specs.Shape.{has_dimensions, inside, is_at_most, is_operand};
+ghost use Rattle.ch_nest.specs.Shape.{is_term, nested, operands, parts_fit, sub_fits};
 
 use crate::forms::{form_fits, is_at_most};
 use crate::limits::{MOST_NESTING, MOST_NUMBER, MOST_OPERANDS};

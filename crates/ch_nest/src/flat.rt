@@ -1,4 +1,5 @@
-ghost use Rattle.std.specs.Prelude.{◌≡◌, ◌<◌, ◌≤◌, ◌+◌, ◌^◌, ℤ, pos, ◌+ℤ◌, ◌*ℤ◌, map, unsigned_abs, slice_index_or, slice_set};
+ghost use Rattle.std.specs.Prelude.{◌≡◌, ◌<◌, ◌≤◌, ◌+◌, ◌^◌, ℤ, pos, ◌+ℤ◌, ◌*ℤ◌};
+ghost use Rattle.std.specs.Prelude.{map, unsigned_abs, slice_index_or, slice_set};
 ghost use Rattle.std.specs.Int.{int_wrap, w64};
 ghost use Rattle.ch_affine.specs.Affine.{IsAtMost, value};
 ghost use Rattle.ch_nest.specs.Fast.{flat_place, flat_value, near, run_flat, run_flats, wrapped};

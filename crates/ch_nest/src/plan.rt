@@ -1,8 +1,10 @@
-ghost use Rattle.std.specs.Prelude.{◌≡◌, ◌≤◌, ◌<◌, ◌^◌, ℤ, pos, [], length, take, IsTrue, IfOk, OnOk, OnErr};
+ghost use Rattle.std.specs.Prelude.{◌≡◌, ◌≤◌, ◌<◌, ◌^◌, ℤ, pos, [], length};
+ghost use Rattle.std.specs.Prelude.{take, IsTrue, IfOk, OnOk, OnErr};
 ghost use Rattle.std.specs.List.{list_all};
 ghost use Rattle.ch_affine.specs.Affine.{value};
 ghost use Rattle.ch_nest.specs.Arrays.{extents_of, total};
-ghost use Rattle.ch_nest.specs.Fast.{AreFlat, FitBelow, FitsBelow, IsFlatExpr, IsFlatItem, IsFlatPlace, IsPlain, IsRowMajor};
+ghost use Rattle.ch_nest.specs.Fast.{AreFlat, FitBelow, FitsBelow, IsFlatExpr};
+ghost use Rattle.ch_nest.specs.Fast.{IsFlatItem, IsFlatPlace, IsPlain, IsRowMajor};
 ghost use Rattle.ch_nest.specs.Limits.{deepest};
 ghost use Rattle.ch_nest.specs.Run.{run};
 ghost use Rattle.ch_nest.specs.Shape.{access_fits, arrays_fit, parts_fit, sub_fits};

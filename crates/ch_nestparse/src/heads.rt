@@ -1,9 +1,14 @@
-ghost use Rattle.std.specs.Prelude.{◌≡◌, ◌≤◌, ◌<◌, ◌^◌, ◌∷◌, [], length, map, true, IfOk, IsTrue, None};
+ghost use Rattle.std.specs.Prelude.{◌≡◌, ◌≤◌, ◌<◌, ◌^◌, ◌∷◌, [], length};
+ghost use Rattle.std.specs.Prelude.{map, true, IfOk, IsTrue, None};
 ghost use Rattle.std.specs.List.{All, list_all};
 ghost use Rattle.ch_nest.specs.Limits.{most_affine};
-ghost use Rattle.ch_nest.specs.Shape.{coefs_fit, constant_fits, form_fits, is_at_most, step_fits, IsSmall};
+ghost use Rattle.ch_nest.specs.Shape.{coefs_fit, constant_fits, form_fits};
+ghost use Rattle.ch_nest.specs.Shape.{is_at_most, step_fits, IsSmall};
 ghost use Rattle.ch_nestparse.specs.Gives.{Gives};
-ghost use Rattle.ch_nestparse.specs.Heads.{bounded, ends_at, head_at, high_at, last_of, low_at, more_at, next_at, next_is_comma, number_step_at, same_name_at, several_at, single_at, step_at, strict_if};
+ghost use Rattle.ch_nestparse.specs.Heads.{bounded, ends_at, head_at, high_at, last_of};
+ghost use Rattle.ch_nestparse.specs.Heads.{low_at, more_at, next_at, next_is_comma};
+ghost use Rattle.ch_nestparse.specs.Heads.{number_step_at, same_name_at, several_at};
+ghost use Rattle.ch_nestparse.specs.Heads.{single_at, step_at, strict_if};
 ghost use Rattle.ch_nestparse.specs.Read.{find_name};
 
 use crate::affine::form;

@@ -1,7 +1,11 @@
-ghost use Rattle.std.specs.Prelude.{◌≡◌, ◌<◌, ◌≤◌, ◌^◌, ℤ, pos, ◌≤ℤ◌, ◌<ℤ◌, ◌+ℤ◌, [], ◌∷◌, ◌++◌, OnOk, unsigned_abs, int_lt};
+ghost use Rattle.std.specs.Prelude.{◌≡◌, ◌<◌, ◌≤◌, ◌^◌, ℤ, pos, ◌≤ℤ◌, ◌<ℤ◌, ◌+ℤ◌};
+ghost use Rattle.std.specs.Prelude.{[], ◌∷◌, ◌++◌, OnOk, unsigned_abs, int_lt};
 ghost use Rattle.std.specs.List.{flat_map, list_all};
 ghost use Rattle.ch_nest.specs.Shape.{constant_fits};
-ghost use Rattle.ch_nestprint.specs.Ends.{beginning_symbols, comma_end, end_symbols, ends_symbols, head_symbols, highs_symbols, is_strict, limit_symbols, listed, lows_symbols, next_symbols, raised_if, relation, step_symbols};
+ghost use Rattle.ch_nestprint.specs.Ends.{beginning_symbols, comma_end, end_symbols};
+ghost use Rattle.ch_nestprint.specs.Ends.{ends_symbols, head_symbols, highs_symbols};
+ghost use Rattle.ch_nestprint.specs.Ends.{is_strict, limit_symbols, listed, lows_symbols};
+ghost use Rattle.ch_nestprint.specs.Ends.{next_symbols, raised_if, relation, step_symbols};
 ghost use Rattle.ch_nestprint.specs.Names.{iterator_name};
 
 use crate::forms::put_form;

@@ -1,5 +1,7 @@
 ghost use Rattle.std.specs.Prelude.{◌≡◌, [], ◌∷◌, ◌++◌, codes, map, neg_ℤ, IfOk, OnOk};
-ghost use Rattle.ch_nestprint.specs.Conditions.{comparison, condition_symbols, far, is_low, left_symbols, moved, near, right_symbols, sides_symbols};
+ghost use Rattle.ch_nestprint.specs.Conditions.{comparison, condition_symbols, far};
+ghost use Rattle.ch_nestprint.specs.Conditions.{is_low, left_symbols, moved, near};
+ghost use Rattle.ch_nestprint.specs.Conditions.{right_symbols, sides_symbols};
 
 use crate::forms::put_form;
 use crate::limits::{MOST_AFFINE, MOST_NUMBER};

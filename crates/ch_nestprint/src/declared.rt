@@ -1,7 +1,9 @@
 ghost use Rattle.std.specs.Prelude.{◌≡◌, [], ◌∷◌, ◌++◌, OnOk, take, drop};
 ghost use Rattle.std.specs.List.{flat_map};
 ghost use Rattle.ch_nestprint.specs.Ends.{is_below};
-ghost use Rattle.ch_nestprint.specs.Printed.{array_symbols, arrays_symbols, extent_symbols, fill_symbols, integer_symbols, let_symbols, lets_symbols};
+ghost use Rattle.ch_nestprint.specs.Printed.{array_symbols, arrays_symbols};
+ghost use Rattle.ch_nestprint.specs.Printed.{extent_symbols, fill_symbols};
+ghost use Rattle.ch_nestprint.specs.Printed.{integer_symbols, let_symbols, lets_symbols};
 
 use crate::named::put_minus_name;
 use crate::symbol::{Symbol, key, mark, name, number};

@@ -1,5 +1,8 @@
-ghost use Rattle.std.specs.Prelude.{◌≡◌, ◌<◌, ◌≤◌, ◌^◌, ◌+◌, ◌&&◌, [], ◌∷◌, ◌++◌, IfOk, OnOk, length};
-ghost use Rattle.ch_nestprint.specs.Ends.{coef_if, coef_symbols, constant_if, constant_symbols, form_symbols, is_below, is_none, lead, terms_symbols, times_if, times_symbols};
+ghost use Rattle.std.specs.Prelude.{◌≡◌, ◌<◌, ◌≤◌, ◌^◌, ◌+◌, ◌&&◌, []};
+ghost use Rattle.std.specs.Prelude.{◌∷◌, ◌++◌, IfOk, OnOk, length};
+ghost use Rattle.ch_nestprint.specs.Ends.{coef_if, coef_symbols, constant_if};
+ghost use Rattle.ch_nestprint.specs.Ends.{constant_symbols, form_symbols, is_below, is_none};
+ghost use Rattle.ch_nestprint.specs.Ends.{lead, terms_symbols, times_if, times_symbols};
 
 use crate::named::put_iterator;
 use crate::symbol::{Symbol, mark, number};

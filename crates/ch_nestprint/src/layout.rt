@@ -2,7 +2,11 @@ ghost use Rattle.std.specs.Prelude.{◌≡◌, ◌<◌, ◌≤◌, ◌^◌, ◌+
 ghost use Rattle.std.specs.List.{list_all};
 ghost use Rattle.std.specs.Char.{is_ascii};
 ghost use Rattle.ch_lex.specs.Signs.{sign_text};
-ghost use Rattle.ch_nestprint.specs.Layouts.{blank_if, depth_after, depth_before, ends_line, ends_operand, first_layout, gap, gap_if, in_head_after, is_tight, is_tight_before, is_tight_behind, layout_after, may_go_on, new_line, spell, symbol_text};
+ghost use Rattle.ch_nestprint.specs.Layouts.{blank_if, depth_after, depth_before, ends_line};
+ghost use Rattle.ch_nestprint.specs.Layouts.{ends_operand, first_layout, gap, gap_if};
+ghost use Rattle.ch_nestprint.specs.Layouts.{in_head_after, is_tight, is_tight_before};
+ghost use Rattle.ch_nestprint.specs.Layouts.{is_tight_behind, layout_after, may_go_on};
+ghost use Rattle.ch_nestprint.specs.Layouts.{new_line, spell, symbol_text};
 
 use crate::symbol::Symbol;
 use ch_affine::Text;

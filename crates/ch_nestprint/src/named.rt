@@ -1,7 +1,9 @@
 ghost use Rattle.std.specs.Prelude.{◌≡◌, [], ◌∷◌, ◌++◌, replicate, IfOk, OnOk, IsTrue, codes};
 ghost use Rattle.std.specs.List.{list_all, list_any, prefix_len};
 ghost use Rattle.std.specs.Char.{is_ascii};
-ghost use Rattle.ch_nestprint.specs.Names.{array_name, is_like, is_taken, is_underscore, iterator_name, letters_for, longest, made_name, minus_name};
+ghost use Rattle.ch_nestprint.specs.Names.{array_name, is_like, is_taken};
+ghost use Rattle.ch_nestprint.specs.Names.{is_underscore, iterator_name, letters_for};
+ghost use Rattle.ch_nestprint.specs.Names.{longest, made_name, minus_name};
 
 use crate::symbol::{Symbol, name};
 use ch_affine::{List, Text};

@@ -3,7 +3,9 @@ ghost use Rattle.ch_nestprint.specs.Minus.{minus_in_items};
 ghost use Rattle.ch_nestprint.specs.Back.{IsReadAs};
 ghost use Rattle.ch_nestprint.specs.Cuts.{Shows};
 ghost use Rattle.ch_nestprint.specs.Printable.{IsPrintable};
-ghost use Rattle.ch_nestprint.specs.Printed.{assign_symbols, body_symbols, item_symbols, items_symbols, lets_symbols, parts_symbols, program_symbols, program_text};
+ghost use Rattle.ch_nestprint.specs.Printed.{assign_symbols, body_symbols, item_symbols};
+ghost use Rattle.ch_nestprint.specs.Printed.{items_symbols, lets_symbols, parts_symbols};
+ghost use Rattle.ch_nestprint.specs.Printed.{program_symbols, program_text};
 
 use crate::access::put_access;
 use crate::bounds::{Head, put_head};

@@ -1,7 +1,8 @@
 ghost use Rattle.std.specs.Prelude.{◌≡◌, [], ◌∷◌, ◌++◌, OnOk, not, unsigned_abs};
 ghost use Rattle.ch_nest.specs.Shape.{is_operand, is_term};
 ghost use Rattle.ch_nestprint.specs.Ends.{is_below};
-ghost use Rattle.ch_nestprint.specs.Sides.{closing, constant_symbol, joined_symbols, opening, right_symbols};
+ghost use Rattle.ch_nestprint.specs.Sides.{closing, constant_symbol};
+ghost use Rattle.ch_nestprint.specs.Sides.{joined_symbols, opening, right_symbols};
 
 use crate::access::put_access;
 use crate::named::{put_iterator, put_minus_name};

@@ -1,6 +1,7 @@
 //! Exact values of affine forms at any point: sums that may be too large for 128 bits.
 
-ghost use Rattle.std.specs.Prelude.{◌≡◌, ◌≤◌, ◌+◌, ◌^◌, ◌+ℤ◌, ◌*ℤ◌, pos, unsigned_abs, ◌↔◌, IsTrue};
+ghost use Rattle.std.specs.Prelude.{◌≡◌, ◌≤◌, ◌+◌, ◌^◌, ◌+ℤ◌, ◌*ℤ◌};
+ghost use Rattle.std.specs.Prelude.{pos, unsigned_abs, ◌↔◌, IsTrue};
 ghost use Rattle.ch_affine.specs.Affine.{dot};
 ghost use Rattle.ch_nest.specs.Run.{modulo, sub_value};
 ghost use Rattle.ch_order.specs.WideNumbers.{IsLowPart, number};

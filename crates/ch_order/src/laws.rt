@@ -1,6 +1,7 @@
 //! Laws of the definitions, each carried by a function without arguments that does nothing.
 
-ghost use Rattle.std.specs.Prelude.{◌≡◌, ◌≢◌, ◌≤◌, ◌↔◌, [], Some, ℕ, ℤ, ◌++◌, ◌∷◌, IsTrue, List, None, length, take};
+ghost use Rattle.std.specs.Prelude.{◌≡◌, ◌≢◌, ◌≤◌, ◌↔◌, [], Some, ℕ, ℤ, ◌++◌};
+ghost use Rattle.std.specs.Prelude.{◌∷◌, IsTrue, List, None, length, take};
 ghost use Rattle.ch_nest.specs.Arrays.{extents_of, total, within_array};
 ghost use Rattle.ch_nest.specs.LoopNest.{LoopNest};
 ghost use Rattle.ch_nest.specs.Run.{run};

@@ -2,7 +2,8 @@
 //! never stored; the number of calls of `Timed::after` is at most about the third power of their
 //! length.
 
-ghost use Rattle.std.specs.Prelude.{◌≡◌, ◌↔◌, ◌∷◌, [], ℕ, ℤ, IfOk, IsTrue, List, MatchOption, is_some};
+ghost use Rattle.std.specs.Prelude.{◌≡◌, ◌↔◌, ◌∷◌, [], ℕ, ℤ, IfOk};
+ghost use Rattle.std.specs.Prelude.{IsTrue, List, MatchOption, is_some};
 ghost use Rattle.ch_order.specs.Legal.{AreAmong, IsLegal, IsLegalBy, steps};
 ghost use Rattle.ch_order.specs.Walk.{rest};
 ghost use Rattle.ch_timed.specs.Do.{Store, done};

@@ -1,6 +1,7 @@
 //! The pieces of a space after a command: some changed, the others the same.
 
-ghost use Rattle.std.specs.Prelude.{◌≡◌, ◌-◌, ◌<◌, ◌^◌, ◌≤ℤ◌, ◌<ℤ◌, None, true, pos, length, map, IfOk, IsTrue};
+ghost use Rattle.std.specs.Prelude.{◌≡◌, ◌-◌, ◌<◌, ◌^◌, ◌≤ℤ◌, ◌<ℤ◌, None};
+ghost use Rattle.std.specs.Prelude.{true, pos, length, map, IfOk, IsTrue};
 ghost use Rattle.ch_moved.specs.Room.{HasRoom};
 ghost use Rattle.std.specs.List.{All};
 ghost use Rattle.ch_affine.specs.Affine.{form, IsAtMost};
@@ -8,7 +9,8 @@ ghost use Rattle.ch_moved.specs.Arguments.{is_named, natural};
 ghost use Rattle.ch_moved.specs.Causes.{no_level, no_piece};
 ghost use Rattle.ch_permute.specs.Changed.{in_first, AllBecome, Becomes};
 ghost use Rattle.ch_permute.specs.Lowered.{plus};
-ghost use Rattle.ch_permute.specs.Permuted.{in_moving, is_permutation, moving, picked, unshared_moving};
+ghost use Rattle.ch_permute.specs.Permuted.{in_moving, is_permutation};
+ghost use Rattle.ch_permute.specs.Permuted.{moving, picked, unshared_moving};
 ghost use Rattle.ch_permute.specs.Raised.{growth};
 ghost use Rattle.ch_permute.specs.Turned.{source, target, Turns};
 ghost use Rattle.ch_space.specs.Keeps.{AreApart, IsWhole};

@@ -1,6 +1,7 @@
 //! Orders of levels: which level an order puts at each place.
 
-ghost use Rattle.std.specs.Prelude.{◌≡◌, ◌+◌, ◌<◌, ◌≤◌, ◌∷◌, [], ◌^◌, drop, length, pos, MatchOption, IsTrue};
+ghost use Rattle.std.specs.Prelude.{◌≡◌, ◌+◌, ◌<◌, ◌≤◌, ◌∷◌, [], ◌^◌, drop};
+ghost use Rattle.std.specs.Prelude.{length, pos, MatchOption, IsTrue};
 ghost use Rattle.std.specs.List.{list_any};
 ghost use Rattle.std.specs.Ordering.{int_eq};
 ghost use Rattle.ch_permute.specs.Permuted.{is_permutation, last_from, moving};

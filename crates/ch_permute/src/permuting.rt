@@ -1,9 +1,11 @@
 //! The loops of a piece in another order.
 
-ghost use Rattle.std.specs.Prelude.{◌≡◌, ◌+◌, ◌<◌, not, ◌&&◌, None, pos, length, map, IfOk, IsTrue};
+ghost use Rattle.std.specs.Prelude.{◌≡◌, ◌+◌, ◌<◌, not, ◌&&◌, None};
+ghost use Rattle.std.specs.Prelude.{pos, length, map, IfOk, IsTrue};
 ghost use Rattle.ch_moved.specs.Causes.{first_failing, Answers};
 ghost use Rattle.ch_moved.specs.Arguments.{natural};
-ghost use Rattle.ch_permute.specs.Permuted.{is_permutation, moving, permute_cause, permuted, unshared_moving};
+ghost use Rattle.ch_permute.specs.Permuted.{is_permutation, moving, permute_cause};
+ghost use Rattle.ch_permute.specs.Permuted.{permuted, unshared_moving};
 ghost use Rattle.ch_order.specs.Legal.{AreAmong};
 ghost use Rattle.ch_space.specs.Members.{group};
 ghost use Rattle.ch_timed.specs.Groups.{in_group, piece};

@@ -1,6 +1,7 @@
 //! The ranges of the new loop values.
 
-ghost use Rattle.std.specs.Prelude.{◌≡◌, ◌+◌, ◌*◌, ◌≤◌, ◌<◌, ◌^◌, ℕ, ◌+ℤ◌, length, slice_index_or, slice_set, IfOk, IsTrue};
+ghost use Rattle.std.specs.Prelude.{◌≡◌, ◌+◌, ◌*◌, ◌≤◌, ◌<◌, ◌^◌, ℕ, ◌+ℤ◌, length};
+ghost use Rattle.std.specs.Prelude.{slice_index_or, slice_set, IfOk, IsTrue};
 ghost use Rattle.ch_moved.specs.Room.{origin_range};
 ghost use Rattle.std.specs.List.{All};
 ghost use Rattle.ch_affine.specs.Affine.{form, IsAtMost};

@@ -1,13 +1,15 @@
 //! Loop values plus amounts: skewed and shifted loops.
 
-ghost use Rattle.std.specs.Prelude.{◌≡◌, ◌+◌, ◌*◌, ◌-◌, ◌<◌, ◌≤◌, ◌^◌, ◌≤ℤ◌, ◌<ℤ◌, nat_le, None, pos, length, unsigned_abs, IfOk};
+ghost use Rattle.std.specs.Prelude.{◌≡◌, ◌+◌, ◌*◌, ◌-◌, ◌<◌, ◌≤◌, ◌^◌, ◌≤ℤ◌, ◌<ℤ◌};
+ghost use Rattle.std.specs.Prelude.{nat_le, None, pos, length, unsigned_abs, IfOk};
 ghost use Rattle.std.specs.List.{All};
 ghost use Rattle.ch_affine.specs.Affine.{form, IsAtMost};
 ghost use Rattle.ch_moved.specs.Arguments.{is_named, natural};
 ghost use Rattle.ch_moved.specs.Causes.{first_failing, no_level, no_piece, Answers};
 ghost use Rattle.ch_moved.specs.Moved.{moved, revalued};
 ghost use Rattle.ch_permute.specs.Lowered.{plus};
-ghost use Rattle.ch_permute.specs.Raised.{growth, shift_cause, shifted, skew_cause, skewed, wrong_count};
+ghost use Rattle.ch_permute.specs.Raised.{growth, shift_cause, shifted};
+ghost use Rattle.ch_permute.specs.Raised.{skew_cause, skewed, wrong_count};
 ghost use Rattle.ch_order.specs.Legal.{AreAmong};
 ghost use Rattle.ch_space.specs.Keeps.{most_weight};
 

@@ -2,7 +2,8 @@
 //! where a value has no point, the least greater one that has some is found at once, however far it
 //! is.
 
-ghost use Rattle.std.specs.Prelude.{◌≡◌, ◌≤◌, ◌<◌, ◌^◌, ◌∷◌, [], ◌++◌, length, map, IfOk, IsTrue, OnOk};
+ghost use Rattle.std.specs.Prelude.{◌≡◌, ◌≤◌, ◌<◌, ◌^◌, ◌∷◌, [], ◌++◌};
+ghost use Rattle.std.specs.Prelude.{length, map, IfOk, IsTrue, OnOk};
 ghost use Rattle.ch_poly.specs.Points.{begins_some};
 ghost use Rattle.ch_pieces.specs.Counting.{IsLow, IsNextValue, IsRest, count_from, cut};
 ghost use Rattle.ch_space.specs.Following.{single, with_boxes};

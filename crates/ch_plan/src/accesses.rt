@@ -2,12 +2,14 @@
 //! around. The strides of the rows and the forms of the iterators are multiplied in, modulo 2^64,
 //! which changes no place that there is.
 
-ghost use Rattle.std.specs.Prelude.{◌≡◌, ◌≤◌, ◌<◌, ℕ, ℤ, pos, ◌+ℤ◌, ◌*ℤ◌, List, length, map, take, IfOk, OnOk};
+ghost use Rattle.std.specs.Prelude.{◌≡◌, ◌≤◌, ◌<◌, ℕ, ℤ, pos, ◌+ℤ◌, ◌*ℤ◌};
+ghost use Rattle.std.specs.Prelude.{List, length, map, take, IfOk, OnOk};
 ghost use Rattle.std.specs.Int.{int_wrap, w64};
 ghost use Rattle.ch_affine.specs.Affine.{dot, value};
 ghost use Rattle.ch_nest.specs.Arrays.{cells_in};
 ghost use Rattle.ch_nest.specs.Run.{sub_value};
-ghost use Rattle.ch_plan.specs.Ready.{AreBases, HaveDepth, IsPoint, IsResidue, IsSpot, IsSumOf, SubsFit, drafted, extents_in, formed, iters_at, strided};
+ghost use Rattle.ch_plan.specs.Ready.{AreBases, HaveDepth, IsPoint, IsResidue, IsSpot, IsSumOf};
+ghost use Rattle.ch_plan.specs.Ready.{SubsFit, drafted, extents_in, formed, iters_at, strided};
 ghost use Rattle.ch_plan.specs.Planned.{mixed, spot_value, weighed};
 
 use crate::plan::{Residue, Spot, Sum, Term, Weight};

@@ -1,9 +1,11 @@
 //! The meter: the cache, the turns that begin, and the sum.
 
-ghost use Rattle.std.specs.Prelude.{◌≡◌, ◌<◌, ◌≤◌, ◌*◌, ◌+◌, ◌^◌, min, length, slice_index_or, slice_set};
+ghost use Rattle.std.specs.Prelude.{◌≡◌, ◌<◌, ◌≤◌, ◌*◌, ◌+◌, ◌^◌, min};
+ghost use Rattle.std.specs.Prelude.{length, slice_index_or, slice_set};
 ghost use Rattle.ch_cost.specs.Cost.{most_cost};
 ghost use Rattle.ch_plan.specs.Divisor.{IsDivisor};
-ghost use Rattle.ch_plan.specs.Planned.{begun, begun_sum, kept_levels, machine_of, places_of, same_at, state, touched};
+ghost use Rattle.ch_plan.specs.Planned.{begun, begun_sum, kept_levels, machine_of};
+ghost use Rattle.ch_plan.specs.Planned.{places_of, same_at, state, touched};
 
 use crate::divisor::{Divisor, quotient, remainder};
 use ch_affine::List;

@@ -1,8 +1,10 @@
 //! Sums over loop values, which wrap on the way, and the places that they make.
 
-ghost use Rattle.std.specs.Prelude.{◌≡◌, ◌≤◌, ◌^◌, pos, ◌+ℤ◌, ◌-ℤ◌, ◌*ℤ◌, neg_ℤ, slice_index_or, slice_set};
+ghost use Rattle.std.specs.Prelude.{◌≡◌, ◌≤◌, ◌^◌, pos, ◌+ℤ◌, ◌-ℤ◌, ◌*ℤ◌};
+ghost use Rattle.std.specs.Prelude.{neg_ℤ, slice_index_or, slice_set};
 ghost use Rattle.std.specs.Int.{int_wrap, w64, w128};
-ghost use Rattle.ch_plan.specs.Planned.{at, mixed, residue_value, residues_value, spot_place, sum_value, wide_value};
+ghost use Rattle.ch_plan.specs.Planned.{at, mixed, residue_value, residues_value};
+ghost use Rattle.ch_plan.specs.Planned.{spot_place, sum_value, wide_value};
 
 use crate::plan::{Residue, Spot, Sum, Term, Weight};
 

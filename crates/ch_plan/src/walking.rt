@@ -3,7 +3,9 @@
 
 ghost use Rattle.std.specs.Prelude.{◌≡◌, map, length};
 ghost use Rattle.ch_plan.specs.Divisor.{IsDivisor};
-ghost use Rattle.ch_plan.specs.Planned.{all_touched, machine_of, meter_plan, meter_plans, passes, right_value, run_plan, run_plans, spot_place, spots, state};
+ghost use Rattle.ch_plan.specs.Planned.{all_touched, machine_of, meter_plan};
+ghost use Rattle.ch_plan.specs.Planned.{meter_plans, passes, right_value, run_plan};
+ghost use Rattle.ch_plan.specs.Planned.{run_plans, spot_place, spots, state};
 
 use crate::ends::{greatest_low, least_high, nth_between, turns_between};
 use crate::meter::{Setting, Tally, begin, touch};

@@ -1,4 +1,5 @@
-ghost use Rattle.std.specs.Prelude.{◌≡◌, ◌≤◌, ◌^◌, ◌+ℤ◌, ◌*ℤ◌, ◌-ℤ◌, ◌≤ℤ◌, ◌+◌, ◌<◌, ◌*◌, ◌/◌, ℤ, pos, unsigned_abs, length, IsTrue, MatchOption, true, false};
+ghost use Rattle.std.specs.Prelude.{◌≡◌, ◌≤◌, ◌^◌, ◌+ℤ◌, ◌*ℤ◌, ◌-ℤ◌, ◌≤ℤ◌, ◌+◌, ◌<◌, ◌*◌, ◌/◌, ℤ};
+ghost use Rattle.std.specs.Prelude.{pos, unsigned_abs, length, IsTrue, MatchOption, true, false};
 ghost use Rattle.std.specs.List.{All};
 ghost use Rattle.ch_affine.specs.Affine.{IsAtMost, value};
 ghost use Rattle.ch_poly.specs.Boxes.{IsBoxed, at, Inside, widths};

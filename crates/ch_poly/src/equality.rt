@@ -1,6 +1,7 @@
 //! Narrowing by equalities that follow from the rows, each of them checked before it is used.
 
-ghost use Rattle.std.specs.Prelude.{◌≡◌, ◌≤◌, ◌<◌, ◌^◌, ◌+ℤ◌, pos, length, IsTrue, IfSome, MatchOption, slice_set};
+ghost use Rattle.std.specs.Prelude.{◌≡◌, ◌≤◌, ◌<◌, ◌^◌, ◌+ℤ◌, pos, length};
+ghost use Rattle.std.specs.Prelude.{IsTrue, IfSome, MatchOption, slice_set};
 ghost use Rattle.std.specs.List.{All};
 ghost use Rattle.ch_affine.specs.Affine.{IsAtMost};
 ghost use Rattle.ch_poly.specs.Boxes.{IsBoxed, Inside, at, widths};

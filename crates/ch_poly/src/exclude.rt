@@ -1,5 +1,6 @@
 ghost use Rattle.std.specs.Prelude.{◌≡◌, ◌<◌, [], length, IsTrue, false, MatchOption, IfSome};
-ghost use Rattle.ch_poly.specs.Exclusions.{IsUneven, IsGcdRow, IsRangeRow, IsFirst, IsNowhere, IsExcluded};
+ghost use Rattle.ch_poly.specs.Exclusions.{IsUneven, IsGcdRow, IsRangeRow};
+ghost use Rattle.ch_poly.specs.Exclusions.{IsFirst, IsNowhere, IsExcluded};
 ghost use Rattle.ch_poly.specs.Points.{points};
 
 use crate::divisor::{common_divisor, divides};

@@ -1,4 +1,5 @@
-ghost use Rattle.std.specs.Prelude.{◌≡◌, ◌≤◌, ◌<◌, ◌^◌, ◌*◌, ◌<ℤ◌, ◌≤ℤ◌, pos, neg_ℤ, length, map, unsigned_abs, IfOk, MatchOption};
+ghost use Rattle.std.specs.Prelude.{◌≡◌, ◌≤◌, ◌<◌, ◌^◌, ◌*◌, ◌<ℤ◌, ◌≤ℤ◌, pos, neg_ℤ};
+ghost use Rattle.std.specs.Prelude.{length, map, unsigned_abs, IfOk, MatchOption};
 ghost use Rattle.std.specs.List.{All};
 ghost use Rattle.ch_affine.specs.Affine.{value};
 ghost use Rattle.ch_poly.specs.Boxes.{IsBoxed};

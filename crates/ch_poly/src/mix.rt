@@ -1,4 +1,5 @@
-ghost use Rattle.std.specs.Prelude.{◌≡◌, ◌≤◌, ◌<◌, ◌^◌, ◌+ℤ◌, ◌*ℤ◌, ◌≤ℤ◌, ◌-ℤ◌, pos, length, IsTrue, IfSome, MatchOption, Some, true};
+ghost use Rattle.std.specs.Prelude.{◌≡◌, ◌≤◌, ◌<◌, ◌^◌, ◌+ℤ◌, ◌*ℤ◌, ◌≤ℤ◌, ◌-ℤ◌, pos};
+ghost use Rattle.std.specs.Prelude.{length, IsTrue, IfSome, MatchOption, Some, true};
 ghost use Rattle.std.specs.List.{All};
 ghost use Rattle.ch_affine.specs.Affine.{IsAtMost, form};
 ghost use Rattle.ch_poly.specs.Boxes.{IsBoxed, Inside, widths};

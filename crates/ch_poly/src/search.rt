@@ -1,4 +1,5 @@
-ghost use Rattle.std.specs.Prelude.{◌≡◌, ◌≤◌, ◌^◌, ◌+ℤ◌, ◌-◌, ◌<◌, ◌*◌, ℕ, pos, length, IsTrue, false, slice_set};
+ghost use Rattle.std.specs.Prelude.{◌≡◌, ◌≤◌, ◌^◌, ◌+ℤ◌, ◌-◌, ◌<◌, ◌*◌, ℕ};
+ghost use Rattle.std.specs.Prelude.{pos, length, IsTrue, false, slice_set};
 ghost use Rattle.std.specs.List.{All};
 ghost use Rattle.ch_affine.specs.Affine.{IsAtMost};
 ghost use Rattle.ch_poly.specs.Boxes.{IsBoxed, at};

@@ -1,6 +1,7 @@
 ghost use Rattle.std.specs.Prelude.{◌≡◌, ◌++◌, OnOk, codes};
 ghost use Rattle.std.specs.List.{flat_map};
-ghost use Rattle.ch_print.specs.Instances.{buffer_text, cell_text, identity_text, label_text, subscript_text};
+ghost use Rattle.ch_print.specs.Instances.{buffer_text, cell_text, identity_text};
+ghost use Rattle.ch_print.specs.Instances.{label_text, subscript_text};
 ghost use Rattle.ch_print.specs.Lists.{behind, separated};
 ghost use Rattle.ch_print.specs.Numbers.{integer_text};
 

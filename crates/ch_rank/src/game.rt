@@ -1,4 +1,6 @@
-ghost use Rattle.std.specs.Prelude.{◌≡◌, ◌≢◌, ℕ, ◌+◌, ◌<◌, ◌≤◌, [], ◌∷◌, ◌++◌, ◌-◌, length, take, slice_index_or, slice_index, slice_set, true, ◌^◌, Some, None, IfSome, IfOk};
+ghost use Rattle.std.specs.Prelude.{◌≡◌, ◌≢◌, ℕ, ◌+◌, ◌<◌, ◌≤◌, [], ◌∷◌, ◌++◌, ◌-◌};
+ghost use Rattle.std.specs.Prelude.{length, take, slice_index_or, slice_index};
+ghost use Rattle.std.specs.Prelude.{slice_set, true, ◌^◌, Some, None, IfSome, IfOk};
 ghost use Rattle.std.specs.Bool.{MatchBool};
 ghost use Rattle.std.specs.List.{All};
 ghost use Rattle.ch_grid.specs.Grid.{sizes};
@@ -6,7 +8,9 @@ ghost use Rattle.ch_grid.specs.Points.{is_point, count};
 ghost use Rattle.ch_rank.specs.Leads.{Leads};
 ghost use Rattle.ch_rank.specs.Moves.{moved, near, expansion, beside, around, first_simplex};
 ghost use Rattle.ch_rank.specs.Rules.{rule};
-ghost use Rattle.ch_rank.specs.Search.{place_of_best, best, below, point_at, asks, moves, begins, stepped, lowers, is_flat, costed, decides, only, advance, opening};
+ghost use Rattle.ch_rank.specs.Search.{place_of_best, best, below, point_at, asks};
+ghost use Rattle.ch_rank.specs.Search.{moves, begins, stepped, lowers, is_flat};
+ghost use Rattle.ch_rank.specs.Search.{costed, decides, only, advance, opening};
 ghost use Rattle.ch_rank.specs.Board.{ask_one, known_by, IsRound, source, finish};
 ghost use Rattle.ch_rank.specs.declared.outcome.Costed.{Costed};
 ghost use Rattle.ch_rank.specs.declared.phase.Phase.TheVariants.{Start, Probe, Reflect, Try};

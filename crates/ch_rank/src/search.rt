@@ -1,8 +1,13 @@
-ghost use Rattle.std.specs.Prelude.{ℕ, ◌≡◌, ◌≢◌, ◌↔◌, IsSomeAnd, IsSome, ◌+◌, ◌-◌, ◌*◌, ◌<◌, ◌≤◌, ◌++◌, ◌∷◌, [], OnOk, OnErr, IfOk, IfErr, IfSome, length, option_map, slice_index, slice_index_or, slice_get, true, false, nat_lt, ◌&&◌};
+ghost use Rattle.std.specs.Prelude.{ℕ, ◌≡◌, ◌≢◌, ◌↔◌, IsSomeAnd, IsSome, ◌+◌, ◌-◌, ◌*◌};
+ghost use Rattle.std.specs.Prelude.{◌<◌, ◌≤◌, ◌++◌, ◌∷◌, [], OnOk, OnErr, IfOk, IfErr};
+ghost use Rattle.std.specs.Prelude.{IfSome, length, option_map, slice_index};
+ghost use Rattle.std.specs.Prelude.{slice_index_or, slice_get, true, false, nat_lt, ◌&&◌};
 ghost use Rattle.ch_grid.specs.Grid.{sizes};
 ghost use Rattle.ch_grid.specs.Points.{count, is_point};
 ghost use Rattle.ch_rank.specs.Course.{Falls, IsLeast};
-ghost use Rattle.ch_rank.specs.Entries.{are_legal, is_refused, may_enter, left_of, most_steps, pending, played, known_in, completed_in, completed_now, outcome_with};
+ghost use Rattle.ch_rank.specs.Entries.{are_legal, is_refused, may_enter, left_of};
+ghost use Rattle.ch_rank.specs.Entries.{most_steps, pending, played, known_in};
+ghost use Rattle.ch_rank.specs.Entries.{completed_in, completed_now, outcome_with};
 ghost use Rattle.ch_rank.specs.declared.phase.Phase.TheVariants.{Converged};
 ghost use Rattle.ch_rank.specs.Ranks.{ranks, rank_of, versions, last_of, better_by, versions_by};
 ghost use Rattle.ch_rank.specs.declared.outcome.Costed.{Costed};

@@ -1,7 +1,8 @@
 //! The pairs of pieces of a space whose elements may change places, and the least reversed pair of
 //! the others.
 
-ghost use Rattle.std.specs.Prelude.{◌≡◌, ◌≤◌, ◌++◌, ◌∷◌, [], ◌↔◌, if◌then◌else◌, length, map, drop, IfOk, OnOk};
+ghost use Rattle.std.specs.Prelude.{◌≡◌, ◌≤◌, ◌++◌, ◌∷◌, [], ◌↔◌, if◌then◌else◌};
+ghost use Rattle.std.specs.Prelude.{length, map, drop, IfOk, OnOk};
 ghost use Rattle.ch_depends.specs.Depends.{pair_of};
 ghost use Rattle.ch_depends.specs.declared.answers.PiecePair.{PiecePair};
 ghost use Rattle.ch_order.specs.Legal.{AreAmong};

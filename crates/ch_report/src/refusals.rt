@@ -1,6 +1,7 @@
 //! Refusals of recipes.
 ghost use Rattle.std.specs.Prelude.{◌≡◌, ◌++◌, OnOk};
-ghost use Rattle.ch_report.specs.Refusals.{buffer_cell, cause_text, cell_of, illegal_text, refusal_text, shape_text};
+ghost use Rattle.ch_report.specs.Refusals.{buffer_cell, cause_text, cell_of};
+ghost use Rattle.ch_report.specs.Refusals.{illegal_text, refusal_text, shape_text};
 
 use ch_affine::Text;
 use ch_nest::{ArrayDecl, Shape};

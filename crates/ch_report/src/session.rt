@@ -6,7 +6,9 @@ ghost use Rattle.ch_grid.specs.Grid.{sizes};
 ghost use Rattle.ch_grid.specs.Points.{is_point};
 ghost use Rattle.ch_print.specs.Numbers.{number_text};
 ghost use Rattle.ch_report.specs.Numbered.{numbered};
-ghost use Rattle.ch_report.specs.Sessions.{best_inside, best_line, cost_text, entry_line, found_text, head_line, is_inside, nearest_text, point_line, rank_line, session_lines, used_text};
+ghost use Rattle.ch_report.specs.Sessions.{best_inside, best_line, cost_text, entry_line};
+ghost use Rattle.ch_report.specs.Sessions.{found_text, head_line, is_inside, nearest_text};
+ghost use Rattle.ch_report.specs.Sessions.{point_line, rank_line, session_lines, used_text};
 
 use crate::part::{BestLine, EntryLine, Found, RankLine, SessionPart};
 use crate::phases::put_phase;

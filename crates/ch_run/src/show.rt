@@ -4,7 +4,8 @@ ghost use Rattle.ch_code.specs.WellFormed.{IsUnit};
 ghost use Rattle.ch_deck.specs.Programs.{IsProgram};
 ghost use Rattle.ch_nest.specs.Sound.{is_sound};
 ghost use Rattle.ch_run.specs.Added.{Adds};
-ghost use Rattle.ch_run.specs.ShowText.{counts_text, piece_line, piece_lines, piece_text, program_line, Shows, ShowsAll};
+ghost use Rattle.ch_run.specs.ShowText.{counts_text, piece_line, piece_lines};
+ghost use Rattle.ch_run.specs.ShowText.{piece_text, program_line, Shows, ShowsAll};
 ghost use Rattle.ch_space.specs.Members.{members};
 ghost use Rattle.ch_timed.specs.Timed.{pieces};
 

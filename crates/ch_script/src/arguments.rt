@@ -1,7 +1,8 @@
 //! The arguments of commands: numbers and parameters, and lists of them.
 ghost use Rattle.std.specs.Prelude.{◌≡◌, ◌∷◌, [], length};
 ghost use Rattle.ch_nestparse.specs.Gives.{Gives};
-ghost use Rattle.ch_script.specs.Arguments.{arg_at, arg_by, arg_comma_at, list_at, list_comma_at, more_arg_at, param_arg};
+ghost use Rattle.ch_script.specs.Arguments.{arg_at, arg_by, arg_comma_at, list_at};
+ghost use Rattle.ch_script.specs.Arguments.{list_comma_at, more_arg_at, param_arg};
 ghost use Rattle.ch_script.specs.Names.{next_is_comma};
 
 use crate::names::Scope;

@@ -2,7 +2,11 @@
 ghost use Rattle.std.specs.Prelude.{◌≡◌, [], length, ◌<◌, ◌^◌};
 ghost use Rattle.std.specs.Str.{bytes_eq};
 ghost use Rattle.ch_nestparse.specs.Gives.{Gives};
-ghost use Rattle.ch_script.specs.Commands.{arguments_at, begins_require, command_at, commands_at, datacopy_at, distribute_at, fuse_at, is_more, known_word, peel_at, permute_at, require_at, requires_at, shift_at, skew_at, split_at, tile_at, unroll_at};
+ghost use Rattle.ch_script.specs.Commands.{arguments_at, begins_require, command_at};
+ghost use Rattle.ch_script.specs.Commands.{commands_at, datacopy_at, distribute_at};
+ghost use Rattle.ch_script.specs.Commands.{fuse_at, is_more, known_word, peel_at};
+ghost use Rattle.ch_script.specs.Commands.{permute_at, require_at, requires_at, shift_at};
+ghost use Rattle.ch_script.specs.Commands.{skew_at, split_at, tile_at, unroll_at};
 ghost use Rattle.ch_script.specs.Words.{require_text};
 
 use crate::arguments::{arg, arg_comma, list, list_comma};

@@ -1,7 +1,9 @@
 //! Conditions: between parameters, and of splits.
 ghost use Rattle.std.specs.Prelude.{◌≡◌, ◌∷◌, [], ◌<◌, ◌^◌, length};
 ghost use Rattle.ch_nestparse.specs.Gives.{Gives};
-ghost use Rattle.ch_script.specs.Conditions.{condition_at, first_term_at, goes_on, known_term, more_term_at, named_alone, named_scaled, relation_if, scaled_at, sum_at, term, term_at};
+ghost use Rattle.ch_script.specs.Conditions.{condition_at, first_term_at, goes_on, known_term};
+ghost use Rattle.ch_script.specs.Conditions.{more_term_at, named_alone, named_scaled};
+ghost use Rattle.ch_script.specs.Conditions.{relation_if, scaled_at, sum_at, term, term_at};
 
 use crate::names::{Scope, level_of};
 use crate::recipe::{Cond, Of, Purpose, Relation, Term};

@@ -2,7 +2,8 @@
 
 ghost use Rattle.std.specs.Prelude.{◌≡◌};
 ghost use Rattle.std.specs.List.{list_all};
-ghost use Rattle.ch_script.specs.Recipes.{arg_fits, args_fit, command_fits, condition_fits, has_few_terms, required_fits, split_fits, term_fits};
+ghost use Rattle.ch_script.specs.Recipes.{arg_fits, args_fit, command_fits, condition_fits};
+ghost use Rattle.ch_script.specs.Recipes.{has_few_terms, required_fits, split_fits, term_fits};
 ghost use Rattle.ch_script.specs.declared.recipe.Purpose.TheVariants.{Require};
 
 use crate::limits::{DEEPEST_LEVEL, MOST_TERMS};

@@ -3,7 +3,8 @@ ghost use Rattle.std.specs.Prelude.{◌≡◌, ◌<◌, ◌≤◌, ◌^◌, leng
 ghost use Rattle.std.specs.List.{list_all};
 ghost use Rattle.std.specs.Char.{is_ascii};
 ghost use Rattle.ch_nestparse.specs.Gives.{Gives};
-ghost use Rattle.ch_script.specs.Names.{find_text, is_free, level_name, level_of, more_param_at, next_is_comma, param_at, params_at};
+ghost use Rattle.ch_script.specs.Names.{find_text, is_free, level_name, level_of};
+ghost use Rattle.ch_script.specs.Names.{more_param_at, next_is_comma, param_at, params_at};
 
 use crate::limits::MOST_PARAMS;
 use ch_affine::{List, Text};

@@ -1,9 +1,11 @@
 //! A condition between parameters as an affine form of their values.
-ghost use Rattle.std.specs.Prelude.{◌≡◌, ◌≤◌, ◌^◌, ℤ, pos, length, map, unsigned_abs, IfOk, IsTrue};
+ghost use Rattle.std.specs.Prelude.{◌≡◌, ◌≤◌, ◌^◌, ℤ, pos, length};
+ghost use Rattle.std.specs.Prelude.{map, unsigned_abs, IfOk, IsTrue};
 ghost use Rattle.std.specs.List.{All, range_with_len};
 ghost use Rattle.ch_affine.specs.Affine.{IsAtMost};
 ghost use Rattle.ch_script.specs.Recipes.{condition_fits};
-ghost use Rattle.ch_script.specs.Requirements.{excess, number_between, number_of, requirement, weight_between, weight_of};
+ghost use Rattle.ch_script.specs.Requirements.{excess, number_between, number_of};
+ghost use Rattle.ch_script.specs.Requirements.{requirement, weight_between, weight_of};
 ghost use Rattle.ch_script.specs.Values.{signed, total};
 ghost use Rattle.ch_script.specs.declared.recipe.Purpose.TheVariants.{Require};
 

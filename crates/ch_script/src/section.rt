@@ -1,4 +1,5 @@
-ghost use Rattle.std.specs.Prelude.{◌≡◌, ◌<◌, ◌≤◌, ◌^◌, ◌+◌, ◌-◌, length, drop, IfErr, IfOk, IsTrue};
+ghost use Rattle.std.specs.Prelude.{◌≡◌, ◌<◌, ◌≤◌, ◌^◌, ◌+◌, ◌-◌};
+ghost use Rattle.std.specs.Prelude.{length, drop, IfErr, IfOk, IsTrue};
 ghost use Rattle.ch_lex.specs.Cut.{IsCut};
 ghost use Rattle.ch_nestparse.specs.Gives.{Gives};
 ghost use Rattle.ch_nestparse.specs.Inside.{IsWithin};

@@ -1,9 +1,12 @@
 //! A condition as an affine form of the loop values, once each parameter has a value.
-ghost use Rattle.std.specs.Prelude.{◌≡◌, ◌≤◌, ◌+◌, ◌*◌, ◌^◌, ℤ, pos, ◌+ℤ◌, ◌-ℤ◌, max, length, map, slice_index_or, unsigned_abs, IfOk, IsTrue, true};
+ghost use Rattle.std.specs.Prelude.{◌≡◌, ◌≤◌, ◌+◌, ◌*◌, ◌^◌, ℤ, pos, ◌+ℤ◌, ◌-ℤ◌, max, length};
+ghost use Rattle.std.specs.Prelude.{map, slice_index_or, unsigned_abs, IfOk, IsTrue, true};
 ghost use Rattle.std.specs.List.{All, list_all};
 ghost use Rattle.ch_affine.specs.Affine.{IsAtMost};
 ghost use Rattle.ch_script.specs.Recipes.{condition_fits, term_fits};
-ghost use Rattle.ch_script.specs.Values.{above, coef_between, coef_of, condition, constant_between, constant_of, greatest_level, level_in, levels_from, levels_in, signed, total};
+ghost use Rattle.ch_script.specs.Values.{above, coef_between, coef_of, condition};
+ghost use Rattle.ch_script.specs.Values.{constant_between, constant_of, greatest_level};
+ghost use Rattle.ch_script.specs.Values.{level_in, levels_from, levels_in, signed, total};
 ghost use Rattle.ch_script.specs.declared.recipe.Purpose.TheVariants.{Split};
 
 use crate::recipe::{Cond, Of, Relation, Term};

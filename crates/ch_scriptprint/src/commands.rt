@@ -3,7 +3,9 @@ ghost use Rattle.std.specs.Prelude.{◌≡◌, ◌++◌, IsTrue, OnOk, codes};
 ghost use Rattle.std.specs.List.{list_all};
 ghost use Rattle.std.specs.Char.{is_ascii};
 ghost use Rattle.ch_script.specs.Words.{word_text};
-ghost use Rattle.ch_scriptprint.specs.Printed.{arg_text, args_text, arguments_text, command_line, condition_text, group_text, pair_text, require_line, triple_text, two, word_of_command};
+ghost use Rattle.ch_scriptprint.specs.Printed.{arg_text, args_text, arguments_text, command_line};
+ghost use Rattle.ch_scriptprint.specs.Printed.{condition_text, group_text, pair_text};
+ghost use Rattle.ch_scriptprint.specs.Printed.{require_line, triple_text, two, word_of_command};
 
 use crate::arguments::{put_arg, put_args};
 use crate::conditions::put_condition;

@@ -2,7 +2,9 @@
 ghost use Rattle.std.specs.Prelude.{◌≡◌, [], ◌++◌, IsTrue, OnOk};
 ghost use Rattle.std.specs.List.{flat_map, list_all};
 ghost use Rattle.std.specs.Char.{is_ascii};
-ghost use Rattle.ch_scriptprint.specs.Printed.{condition_text, factor_if, factor_text, first_sign, first_text, level_text, next_sign, next_text, part_text, relation_text, sum_text};
+ghost use Rattle.ch_scriptprint.specs.Printed.{condition_text, factor_if, factor_text};
+ghost use Rattle.ch_scriptprint.specs.Printed.{first_sign, first_text, level_text, next_sign};
+ghost use Rattle.ch_scriptprint.specs.Printed.{next_text, part_text, relation_text, sum_text};
 
 use crate::arguments::put_param;
 use ch_affine::Text;

@@ -7,8 +7,10 @@ ghost use Rattle.ch_rank.specs.Growth.{Keeps};
 ghost use Rattle.ch_session.specs.declared.event.Event.{Event};
 ghost use Rattle.ch_session.specs.declared.event.Event.TheVariants.{Claim, Fetch};
 ghost use Rattle.ch_session.specs.Growth.{seat_of};
-ghost use Rattle.ch_session.specs.History.{Theme, game, is_claimed_by, is_held_by, is_legal, news, version_now};
-ghost use Rattle.ch_session.specs.Laws.{AllBelow, ClaimedOnce, IsLastBy, NoneBy, OneClaimant, OneLease, is_claim};
+ghost use Rattle.ch_session.specs.History.{Theme, game, is_claimed_by, is_held_by};
+ghost use Rattle.ch_session.specs.History.{is_legal, news, version_now};
+ghost use Rattle.ch_session.specs.Laws.{AllBelow, ClaimedOnce, IsLastBy, NoneBy};
+ghost use Rattle.ch_session.specs.Laws.{OneClaimant, OneLease, is_claim};
 
 /// Each beginning of a legal history is legal.
 pub fn beginnings_are_legal()

@@ -1,9 +1,16 @@
-ghost use Rattle.std.specs.Prelude.{◌≡◌, ℕ, ◌+◌, ◌-◌, ◌<◌, ◌≤◌, ◌++◌, ◌∷◌, [], IfOk, OnOk, OnErr, length, true, false, slice_get, option_copied, is_some, Some, None};
+ghost use Rattle.std.specs.Prelude.{◌≡◌, ℕ, ◌+◌, ◌-◌, ◌<◌, ◌≤◌, ◌++◌, ◌∷◌, []};
+ghost use Rattle.std.specs.Prelude.{IfOk, OnOk, OnErr, length, true, false};
+ghost use Rattle.std.specs.Prelude.{slice_get, option_copied, is_some, Some, None};
 ghost use Rattle.std.specs.Arc.{arc_value};
 ghost use Rattle.ch_rank.specs.Search.{point_at};
 ghost use Rattle.ch_session.specs.declared.event.Event.TheVariants.{Good, Refused, Leave, Report};
-ghost use Rattle.ch_session.specs.History.{game, trials, is_legal, is_claimed_by, is_held_by, left_after, is_built, fetch_gives, is_free, first_trial, holds, news, searched};
-ghost use Rattle.ch_session.specs.Replies.{Past, after, original_made, trial_made, ClaimReply, added_by_claim, BuiltFits, FetchReply, added_by_fetch, ReportReply, added_by_report, BuiltReply, added_by_built, added_by_leave};
+ghost use Rattle.ch_session.specs.History.{game, trials, is_legal, is_claimed_by};
+ghost use Rattle.ch_session.specs.History.{is_held_by, left_after, is_built, fetch_gives};
+ghost use Rattle.ch_session.specs.History.{is_free, first_trial, holds, news, searched};
+ghost use Rattle.ch_session.specs.Replies.{Past, after, original_made, trial_made};
+ghost use Rattle.ch_session.specs.Replies.{ClaimReply, added_by_claim, BuiltFits, FetchReply};
+ghost use Rattle.ch_session.specs.Replies.{added_by_fetch, ReportReply, added_by_report};
+ghost use Rattle.ch_session.specs.Replies.{BuiltReply, added_by_built, added_by_leave};
 
 use crate::cell::{Cell, renew};
 use crate::event::Event;

@@ -1,10 +1,12 @@
-ghost use Rattle.std.specs.Prelude.{◌≡◌, ◌^◌, ◌<◌, ◌+◌, length, map, ◌++◌, ◌∷◌, [], take, IsTrue, IfOk, OnOk, Option, Some, None};
+ghost use Rattle.std.specs.Prelude.{◌≡◌, ◌^◌, ◌<◌, ◌+◌, length, map, ◌++◌, ◌∷◌, []};
+ghost use Rattle.std.specs.Prelude.{take, IsTrue, IfOk, OnOk, Option, Some, None};
 ghost use Rattle.std.specs.List.{All, list_all, sum};
 ghost use Rattle.ch_affine.specs.Affine.{IsAtMost};
 ghost use Rattle.ch_nest.specs.Arrays.{extents_of};
 ghost use Rattle.ch_nest.specs.Run.{sub_value};
 ghost use Rattle.ch_nest.specs.Shape.{access_fits, body_fits, sub_fits};
-ghost use Rattle.ch_space.specs.Judged.{access_count, accesses_before, bodies, bodies_of, first_leaving, text_accesses};
+ghost use Rattle.ch_space.specs.Judged.{access_count, accesses_before, bodies};
+ghost use Rattle.ch_space.specs.Judged.{bodies_of, first_leaving, text_accesses};
 ghost use Rattle.ch_space.specs.JudgingWalk.{IsNear};
 ghost use Rattle.ch_timed.specs.Conflict.{cell_of, reads};
 ghost use Rattle.ch_timed.specs.declared.element.Label.TheVariants.{Stmt};

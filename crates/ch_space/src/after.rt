@@ -2,14 +2,17 @@
 //! differs from it first in a greater place or a greater loop value; the least such instance is the
 //! one that stays like the vector longest.
 
-ghost use Rattle.std.specs.Prelude.{◌≡◌, ◌≤◌, ◌<◌, ◌+◌, ◌^◌, pos, [], ◌++◌, ◌∷◌, length, map, IfOk, MatchOption};
+ghost use Rattle.std.specs.Prelude.{◌≡◌, ◌≤◌, ◌<◌, ◌+◌, ◌^◌, pos, [], ◌++◌};
+ghost use Rattle.std.specs.Prelude.{◌∷◌, length, map, IfOk, MatchOption};
 ghost use Rattle.std.specs.List.{All};
 ghost use Rattle.ch_affine.specs.Affine.{IsAtMost};
 ghost use Rattle.ch_affine.specs.Rows.{IsBox};
 ghost use Rattle.ch_timed.specs.Members.{In};
 ghost use Rattle.ch_timed.specs.Next.{next_after};
 ghost use Rattle.ch_timed.specs.Vectors.{woven};
-ghost use Rattle.ch_space.specs.Following.{BeginsIn, BeginsWith, ComesAfter, HasEmpty, IsAbove, IsAny, IsLeast, IsNext, earlier, narrowed, shared, single, with_boxes};
+ghost use Rattle.ch_space.specs.Following.{BeginsIn, BeginsWith, ComesAfter, HasEmpty};
+ghost use Rattle.ch_space.specs.Following.{IsAbove, IsAny, IsLeast, IsNext, earlier};
+ghost use Rattle.ch_space.specs.Following.{narrowed, shared, single, with_boxes};
 ghost use Rattle.ch_space.specs.Keeps.{AreApart, IsWhole};
 ghost use Rattle.ch_space.specs.Pieces.{element_at, elements, instances, listed};
 

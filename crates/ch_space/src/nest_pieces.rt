@@ -2,7 +2,8 @@ ghost use Rattle.std.specs.Prelude.{◌≡◌, ◌≤◌, ◌+◌, [], ◌∷◌
 ghost use Rattle.ch_nest.specs.Limits.{deepest};
 ghost use Rattle.ch_space.specs.Built.{piece_of};
 ghost use Rattle.ch_space.specs.Fitting.{capped, Adds, AreBelow, IsBelow, LevelsFit, Places};
-ghost use Rattle.ch_space.specs.Statements.{at_numbers, findings, findings_of, instances_of, loops, statement};
+ghost use Rattle.ch_space.specs.Statements.{at_numbers, findings, findings_of};
+ghost use Rattle.ch_space.specs.Statements.{instances_of, loops, statement};
 
 use crate::copies::copied_body;
 use crate::level::{Around, inside_condition, inside_loop, loops_in, places_inside};

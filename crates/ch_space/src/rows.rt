@@ -1,12 +1,16 @@
 //! The rows, boxes and forms of the piece of a statement, made from the loops and conditions around
 //! it.
 
-ghost use Rattle.std.specs.Prelude.{◌≡◌, ◌≤◌, ◌≤ℤ◌, ◌<◌, ◌+◌, ◌*◌, ◌^◌, ℤ, neg_ℤ, [], ◌∷◌, ◌++◌, length, map, IfOk, OnOk};
+ghost use Rattle.std.specs.Prelude.{◌≡◌, ◌≤◌, ◌≤ℤ◌, ◌<◌, ◌+◌, ◌*◌, ◌^◌, ℤ, neg_ℤ};
+ghost use Rattle.std.specs.Prelude.{[], ◌∷◌, ◌++◌, length, map, IfOk, OnOk};
 ghost use Rattle.std.specs.List.{All};
 ghost use Rattle.ch_affine.specs.Affine.{IsAtMost};
 ghost use Rattle.ch_nest.specs.Limits.{deepest, most_step};
 ghost use Rattle.ch_nest.specs.Shape.{IsSmall};
-ghost use Rattle.ch_space.specs.Built.{boxes_from, hidden_boxes, hidden_range, high_row, level_rows, low_row, padded, padded_row, part_rows, rows_of, step_rows, steps_high, steps_low, unit, units, zeros};
+ghost use Rattle.ch_space.specs.Built.{boxes_from, hidden_boxes, hidden_range};
+ghost use Rattle.ch_space.specs.Built.{high_row, level_rows, low_row, padded};
+ghost use Rattle.ch_space.specs.Built.{padded_row, part_rows, rows_of, step_rows};
+ghost use Rattle.ch_space.specs.Built.{steps_high, steps_low, unit, units, zeros};
 ghost use Rattle.ch_space.specs.Fitting.{IsShort, IsShortPart, LevelsFit};
 ghost use Rattle.ch_space.specs.Statements.{hidden_of, loops, steps};
 ghost use Rattle.ch_space.specs.declared.level.Around.TheVariants.{Inside};

@@ -2,7 +2,8 @@
 ghost use Rattle.std.specs.Prelude.{◌≡◌, IsTrue, length};
 ghost use Rattle.ch_deck.specs.Programs.{IsProgram};
 ghost use Rattle.ch_judge.specs.Judged.{IsSubject};
-ghost use Rattle.ch_subject.specs.Subjects.{can_judge, nest_of, program_in, recipe_in, reorders_alone};
+ghost use Rattle.ch_subject.specs.Subjects.{can_judge, nest_of, program_in};
+ghost use Rattle.ch_subject.specs.Subjects.{recipe_in, reorders_alone};
 ghost use Rattle.ch_workload.specs.Sessions.{session_fits};
 
 use ch_deck::{Deck, Program};

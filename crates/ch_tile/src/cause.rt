@@ -3,7 +3,8 @@
 ghost use Rattle.std.specs.Prelude.{◌≡◌, ◌<◌, [], ◌∷◌, None, length, map};
 ghost use Rattle.ch_moved.specs.Arguments.{natural};
 ghost use Rattle.ch_moved.specs.Causes.{first_of, no_level, no_piece, unshared};
-ghost use Rattle.ch_tile.specs.Tiled.{greatest, new_depth, no_outer, no_size, tile_cause, too_deep};
+ghost use Rattle.ch_tile.specs.Tiled.{greatest, new_depth, no_outer};
+ghost use Rattle.ch_tile.specs.Tiled.{no_size, tile_cause, too_deep};
 ghost use Rattle.ch_timed.specs.Groups.{piece};
 ghost use Rattle.ch_timed.specs.Timed.{pieces};
 

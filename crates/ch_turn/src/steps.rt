@@ -1,9 +1,11 @@
 //! The atomic steps of the ticket lock. A step reads or changes one word; the slot moves beside it,
 //! as plain memory that only the seat in its turn has. The calls of `Turn` are made of these.
-ghost use Rattle.std.specs.Prelude.{◌≡◌, ◌+◌, ◌-◌, ◌^◌, ◌<◌, ◌≤◌, ℕ, List, [], ◌∷◌, ◌++◌, Option, Some, None, All, true};
+ghost use Rattle.std.specs.Prelude.{◌≡◌, ◌+◌, ◌-◌, ◌^◌, ◌<◌, ◌≤◌, ℕ, List, []};
+ghost use Rattle.std.specs.Prelude.{◌∷◌, ◌++◌, Option, Some, None, All, true};
 ghost use Rattle.ch_turn.specs.History.{AddsOwn, IsPrefix, KnowsOwn, longer, shorter};
 ghost use Rattle.ch_turn.specs.Holdings.{HasSomeNumber, IsOnceEach, has_number};
-ghost use Rattle.ch_turn.specs.Views.{at_stage, joined_view, view_after_split, view_after_turn, view_split_off};
+ghost use Rattle.ch_turn.specs.Views.{at_stage, joined_view, view_after_split};
+ghost use Rattle.ch_turn.specs.Views.{view_after_turn, view_split_off};
 ghost use Rattle.ch_turn.specs.declared.view.Stage.TheVariants.{Idle, Leaving, Served, Waiting};
 
 use crate::listed::Listed;

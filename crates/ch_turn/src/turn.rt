@@ -40,10 +40,14 @@ pub struct Turn<V: Listed> {
 }
 
 impl<V: Listed> Turn<V> {
-    ghost use Rattle.std.specs.Prelude.{◌≡◌, ◌≢◌, ◌+◌, ◌-◌, ◌^◌, ◌<◌, ◌≤◌, ℕ, List, [], ◌∷◌, ◌++◌, All, IfOk, IsOkAnd, true, false, length, drop};
+    ghost use Rattle.std.specs.Prelude.{◌≡◌, ◌≢◌, ◌+◌, ◌-◌, ◌^◌, ◌<◌, ◌≤◌, ℕ, List, [], ◌∷◌};
+    ghost use Rattle.std.specs.Prelude.{◌++◌, All, IfOk, IsOkAnd, true, false, length, drop};
     ghost use Rattle.ch_turn.specs.History.{IsPrefix, longer};
-    ghost use Rattle.ch_turn.specs.Holdings.{entries_of, has_number, own_entries, with_entries, without_number};
-    ghost use Rattle.ch_turn.specs.Seats.{HasAllNumbers, HasNumber, IsIdle, IsSeatOf, IsServed, KnowsSame, SameSeat, first_value, holdings, own_number, reads_of, seen_by, taken_by, turns_left};
+    ghost use Rattle.ch_turn.specs.Holdings.{entries_of, has_number, own_entries};
+    ghost use Rattle.ch_turn.specs.Holdings.{with_entries, without_number};
+    ghost use Rattle.ch_turn.specs.Seats.{HasAllNumbers, HasNumber, IsIdle, IsSeatOf, IsServed};
+    ghost use Rattle.ch_turn.specs.Seats.{KnowsSame, SameSeat, first_value, holdings};
+    ghost use Rattle.ch_turn.specs.Seats.{own_number, reads_of, seen_by, taken_by, turns_left};
 
     /// A turn round a value with an empty history, of which `turns` turns may be taken in all, and
     /// its first seat. The first seat holds all numbers below 65,536; its own is 65,535. Where

@@ -3,7 +3,8 @@
 ghost use Rattle.std.specs.Prelude.{◌≡◌, ◌<◌, pos, true, length, map, IfOk, OnOk};
 ghost use Rattle.std.specs.List.{All};
 ghost use Rattle.ch_space.specs.Pieces.{instances};
-ghost use Rattle.ch_unroll.specs.Copies.{AllBecome, Becomes, IsCopy, IsTurn, PushesOn, IsPlaced, ArePlaced};
+ghost use Rattle.ch_unroll.specs.Copies.{AllBecome, Becomes, IsCopy, IsTurn};
+ghost use Rattle.ch_unroll.specs.Copies.{PushesOn, IsPlaced, ArePlaced};
 
 use crate::layout::Layout;
 use crate::turn::{offset_places, turn_piece};

@@ -1,11 +1,13 @@
 //! The turns of a loop that leave one remainder, as a piece.
 
-ghost use Rattle.std.specs.Prelude.{◌≡◌, ◌+◌, ◌<◌, ◌≤◌, ◌^◌, [], length, slice_index_or, take, IfOk};
+ghost use Rattle.std.specs.Prelude.{◌≡◌, ◌+◌, ◌<◌, ◌≤◌, ◌^◌, []};
+ghost use Rattle.std.specs.Prelude.{length, slice_index_or, take, IfOk};
 ghost use Rattle.ch_moved.specs.Room.{HasRoom};
 ghost use Rattle.ch_moved.specs.Reindexed.{IsReindexed};
 ghost use Rattle.ch_space.specs.Built.{unit};
 ghost use Rattle.ch_space.specs.Keeps.{IsWhole};
-ghost use Rattle.ch_unroll.specs.Turns.{multiple, offset_places, quotients, turn_boxes, turn_forms};
+ghost use Rattle.ch_unroll.specs.Turns.{multiple, offset_places};
+ghost use Rattle.ch_unroll.specs.Turns.{quotients, turn_boxes, turn_forms};
 
 use ch_affine::{Aff, List, Range};
 use ch_moved::reindexed;

@@ -5,7 +5,8 @@ ghost use Rattle.ch_moved.specs.Arguments.{natural};
 ghost use Rattle.ch_moved.specs.Causes.{Answers};
 ghost use Rattle.ch_order.specs.Legal.{AreAmong};
 ghost use Rattle.ch_pieces.specs.Candidates.{AreCandidates};
-ghost use Rattle.ch_unroll.specs.Unrolled.{first_cause, no_amount, unroll_cause, unrolled, unrolls};
+ghost use Rattle.ch_unroll.specs.Unrolled.{first_cause, no_amount};
+ghost use Rattle.ch_unroll.specs.Unrolled.{unroll_cause, unrolled, unrolls};
 
 use crate::copies::copies;
 use crate::layout::laid_out;

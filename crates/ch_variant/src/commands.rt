@@ -4,7 +4,9 @@ ghost use Rattle.std.specs.Prelude.{◌≡◌, ◌<◌, ◌^◌, false, length, 
 ghost use Rattle.std.specs.List.{All};
 ghost use Rattle.ch_affine.specs.Affine.{IsAtMost};
 ghost use Rattle.ch_script.specs.Recipes.{command_fits, condition_fits};
-ghost use Rattle.ch_script.specs.declared.recipe.Command.TheVariants.{Distribute, Fuse, Peel, Permute, Shift, Skew, Split, Unroll};
+ghost use Rattle.ch_script.specs.declared.recipe.Command.TheVariants.{Distribute, Fuse};
+ghost use Rattle.ch_script.specs.declared.recipe.Command.TheVariants.{Peel, Permute, Shift};
+ghost use Rattle.ch_script.specs.declared.recipe.Command.TheVariants.{Skew, Split, Unroll};
 ghost use Rattle.ch_script.specs.declared.recipe.Purpose.TheVariants as purposes;
 ghost use Rattle.ch_variant.specs.Commands.{IsStep, frees_sums, reorders};
 

@@ -1,5 +1,6 @@
 ghost use Rattle.std.specs.Prelude.{◌≡◌, false, IfOk, map, string_bytes};
-ghost use Rattle.clap.specs.Words.{app_of, rule_of, fault_of, found_of, rows_of, matches_of, FailsBy};
+ghost use Rattle.clap.specs.Words.{app_of, rule_of, fault_of, found_of};
+ghost use Rattle.clap.specs.Words.{rows_of, matches_of, FailsBy};
 ghost use Rattle.ch_words.specs.CommandLine.{stated, bare, command_word, valued_option};
 
 use clap::{Arg, ArgMatches, Command, Error};

@@ -2,7 +2,8 @@ ghost use Rattle.std.specs.Prelude.{◌≡◌, option_map, codes, IfOk};
 ghost use Rattle.std.specs.List.{list_any};
 ghost use Rattle.std.specs.Option.{is_some};
 ghost use Rattle.clap.specs.Words.{found_of, first_of, rows_of};
-ghost use Rattle.ch_words.specs.Options.{command_named, values_in, written, unused_by, place_of, builders_of, sums_of, deck_number_of};
+ghost use Rattle.ch_words.specs.Options.{command_named, values_in, written, unused_by};
+ghost use Rattle.ch_words.specs.Options.{place_of, builders_of, sums_of, deck_number_of};
 
 use crate::numbers::{LARGEST_NUMBER, MOST_BUILDERS, natural_of, wholes_of};
 use ch_affine::List;

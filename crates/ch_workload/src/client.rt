@@ -1,10 +1,12 @@
 //! Clients, and the reader of their sections.
-ghost use Rattle.std.specs.Prelude.{◌≡◌, ◌<◌, ◌≤◌, ◌^◌, ◌+◌, ◌-◌, drop, length, map, IfErr, IfOk, IsTrue};
+ghost use Rattle.std.specs.Prelude.{◌≡◌, ◌<◌, ◌≤◌, ◌^◌, ◌+◌, ◌-◌, drop};
+ghost use Rattle.std.specs.Prelude.{length, map, IfErr, IfOk, IsTrue};
 ghost use Rattle.ch_lex.specs.Cut.{IsCut};
 ghost use Rattle.ch_nestparse.specs.Gives.{Gives};
 ghost use Rattle.ch_nestparse.specs.Inside.{IsWithin};
 ghost use Rattle.ch_nestparse.specs.Spelling.{is_name};
-ghost use Rattle.ch_workload.specs.Clients.{array_counts, client_at, client_fits, patience_at, patience_if, section_at};
+ghost use Rattle.ch_workload.specs.Clients.{array_counts, client_at, client_fits};
+ghost use Rattle.ch_workload.specs.Clients.{patience_at, patience_if, section_at};
 
 use crate::calls::{CallDecl, calls};
 use crate::fills::{ClientFill, fills};

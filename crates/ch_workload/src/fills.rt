@@ -3,7 +3,8 @@ ghost use Rattle.std.specs.Prelude.{◌≡◌, ◌≤◌, ◌<◌, ◌^◌, leng
 ghost use Rattle.std.specs.List.{list_all};
 ghost use Rattle.ch_nest.specs.Shape.{arrays_fit};
 ghost use Rattle.ch_nestparse.specs.Gives.{Gives};
-ghost use Rattle.ch_workload.specs.Fills.{arrays_of, begins_fill, fill_at, fill_fits, fills_at, fills_differ, is_filled, is_for, values_at};
+ghost use Rattle.ch_workload.specs.Fills.{arrays_of, begins_fill, fill_at, fill_fits, fills_at};
+ghost use Rattle.ch_workload.specs.Fills.{fills_differ, is_filled, is_for, values_at};
 
 use crate::names::{Scope, array, program};
 use ch_affine::List;

@@ -1,7 +1,8 @@
 //! The machine of a client.
 ghost use Rattle.std.specs.Prelude.{◌≡◌, ◌≤◌, ◌<◌, ◌^◌, length, IfOk};
 ghost use Rattle.ch_nestparse.specs.Gives.{Gives};
-ghost use Rattle.ch_workload.specs.Machines.{between_at, listed_at, machine_at, numbers_at, usual_machine};
+ghost use Rattle.ch_workload.specs.Machines.{between_at, listed_at, machine_at};
+ghost use Rattle.ch_workload.specs.Machines.{numbers_at, usual_machine};
 
 use ch_lex::{Code2, Keyword, ParseError, Sign, Token};
 use ch_nest::Machine;

@@ -3,7 +3,9 @@ ghost use Rattle.std.specs.Prelude.{◌≡◌, ℕ, ◌<◌, ◌≤◌, ◌^◌,
 ghost use Rattle.std.specs.List.{list_all};
 ghost use Rattle.std.specs.Char.{is_ascii};
 ghost use Rattle.ch_nestparse.specs.Gives.{Gives};
-ghost use Rattle.ch_workload.specs.Names.{array_at, find_array, find_program, find_recipe, find_session, found_at, program_at, recipe_at, session_at};
+ghost use Rattle.ch_workload.specs.Names.{array_at, find_array, find_program};
+ghost use Rattle.ch_workload.specs.Names.{find_recipe, find_session, found_at};
+ghost use Rattle.ch_workload.specs.Names.{program_at, recipe_at, session_at};
 
 use crate::session::SessionDecl;
 use ch_lex::{Code2, ParseError, Token};

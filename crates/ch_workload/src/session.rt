@@ -1,5 +1,6 @@
 //! Sessions, and the reader of their sections.
-ghost use Rattle.std.specs.Prelude.{◌≡◌, ◌<◌, ◌≤◌, ◌^◌, ◌+◌, ◌-◌, drop, length, pos, IfErr, IfOk, IsTrue, true, false};
+ghost use Rattle.std.specs.Prelude.{◌≡◌, ◌<◌, ◌≤◌, ◌^◌, ◌+◌, ◌-◌, drop, length};
+ghost use Rattle.std.specs.Prelude.{pos, IfErr, IfOk, IsTrue, true, false};
 ghost use Rattle.std.specs.List.{list_all};
 ghost use Rattle.std.specs.Str.{bytes_eq};
 ghost use Rattle.ch_grid.specs.Grid.{is_good};
@@ -7,7 +8,9 @@ ghost use Rattle.ch_lex.specs.Cut.{IsCut};
 ghost use Rattle.ch_lex.specs.declared.error.Code2.TheVariants.{D5};
 ghost use Rattle.ch_nestparse.specs.Spelling.{is_name};
 ghost use Rattle.ch_workload.specs.Refusals.{Gives};
-ghost use Rattle.ch_workload.specs.Sessions.{begins_repeat, closed_at, grid_fits, has_few_points, numbered, repeats_at, section_at, session_at, session_fits, times_at};
+ghost use Rattle.ch_workload.specs.Sessions.{begins_repeat, closed_at, grid_fits};
+ghost use Rattle.ch_workload.specs.Sessions.{has_few_points, numbered, repeats_at};
+ghost use Rattle.ch_workload.specs.Sessions.{section_at, session_at, session_fits, times_at};
 ghost use Rattle.ch_workload.specs.Tuned.{are_repeats, is_tuned};
 ghost use Rattle.ch_workload.specs.Inside.{IsWithin};
 ghost use Rattle.ch_workload.specs.declared.error.DeckCode.TheVariants.{Plain};

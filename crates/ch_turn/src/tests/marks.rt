@@ -1,5 +1,6 @@
 //! A value that stands for a list of marks, and one turn on it.
-ghost use Rattle.std.specs.Prelude.{◌≡◌, ◌≢◌, ◌+◌, ◌++◌, ◌<◌, ◌≤◌, ℕ, List, [], All, IfOk, OnOk, length};
+ghost use Rattle.std.specs.Prelude.{◌≡◌, ◌≢◌, ◌+◌, ◌++◌, ◌<◌, ◌≤◌, ℕ};
+ghost use Rattle.std.specs.Prelude.{List, [], All, IfOk, OnOk, length};
 ghost use Rattle.ch_turn.specs.Seats.{HasAllNumbers, HasNumber, IsIdle, own_number, turns_left};
 
 use crate::{Listed, Turn, TurnSeat};
