@@ -12,8 +12,6 @@ mod limits;
 mod list;
 mod negation;
 mod system;
-#[cfg(test)]
-mod tests;
 mod text;
 pub mod wide;
 

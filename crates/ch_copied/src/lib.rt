@@ -5,6 +5,3 @@
 mod laws;
 
 pub use laws::{copy_keeps_arrays, copy_keeps_meaning, extents_are_exact};
-
-#[cfg(test)]
-mod tests;

@@ -17,6 +17,3 @@ mod symbol;
 
 pub use printable::parsed_programs_are_printable;
 pub use program::print_program;
-
-#[cfg(test)]
-mod tests;

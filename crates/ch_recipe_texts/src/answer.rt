@@ -5,20 +5,19 @@ use crate::forms::put_forms;
 use ch_affine::Text;
 use ch_lex::{Code2, ParseError, spot, tokens};
 use ch_print::put_number;
-use ch_script::{Recipe, parse_recipe};
+use ch_script::{ParsedRecipe, parse_recipe};
 use ch_scriptprint::print_recipe;
 use std::alloc::{AllocError, Global};
 
 /// The longest text that is read.
 const MOST_BYTES: usize = 1 << 20;
 
-/// The recipe that the text begins with.
-fn read(alloc: Global, text: &[u8]) -> Result<Recipe, ParseError>
+/// The recipe that the text begins with, and the number of its tokens.
+fn read(alloc: Global, text: &[u8]) -> Result<ParsedRecipe, ParseError>
     requires { length text.now ≤ 2 ^ 20 }
 {
     let found = tokens(alloc, text)?;
-    let parsed = parse_recipe(alloc, found.as_slice(), text, 0)?;
-    Ok(parsed.recipe)
+    parse_recipe(alloc, found.as_slice(), text, 0)
 }
 
 /// Adds the code of a refusal, and its line and column. Its place lies in the text or is its end.
@@ -41,23 +40,25 @@ fn is_read_back(alloc: Global, printed: &Text) -> Result<bool, AllocError> {
     }
     match read(alloc, printed.as_bytes()) {
         Ok(again) => {
-            let second = print_recipe(alloc, &again)?;
+            let second = print_recipe(alloc, &again.recipe)?;
             Ok(second.is(printed.as_bytes()))
         }
         Err(_refusal) => Ok(false),
     }
 }
 
-/// Adds the text of a recipe, and behind it the forms of its conditions.
-fn put_recipe(alloc: Global, out: &mut Text, recipe: &Recipe) -> Result<(), AllocError> {
-    let printed = print_recipe(alloc, recipe)?;
+/// Adds how many tokens a recipe has, its text, and behind it the forms of its conditions.
+fn put_recipe(alloc: Global, out: &mut Text, parsed: &ParsedRecipe) -> Result<(), AllocError> {
+    let printed = print_recipe(alloc, &parsed.recipe)?;
     if is_read_back(alloc, &printed)? {
-        out.append(b"accepted\n")?;
+        out.append(b"accepted, ")?;
     } else {
-        out.append(b"not read back\n")?;
+        out.append(b"not read back, ")?;
     }
+    put_number(out, u64::from(parsed.next))?;
+    out.append(b" tokens\n")?;
     out.append(printed.as_bytes())?;
-    put_forms(alloc, out, recipe)
+    put_forms(alloc, out, &parsed.recipe)
 }
 
 /// The text of a recipe with so many commands that it is nearly as long as a text may be.
@@ -78,7 +79,7 @@ pub fn answer(alloc: Global, text: &[u8]) -> Result<Text, AllocError> {
         return Ok(out);
     }
     match read(alloc, text) {
-        Ok(recipe) => put_recipe(alloc, &mut out, &recipe)?,
+        Ok(parsed) => put_recipe(alloc, &mut out, &parsed)?,
         Err(ParseError::Refused { code, at, .. }) => put_refusal(&mut out, text, code, at)?,
         Err(ParseError::Memory) => out.append(b"no memory")?,
     }

@@ -12,8 +12,6 @@ mod recipe;
 mod refusal;
 mod requirements;
 mod section;
-#[cfg(test)]
-mod tests;
 mod values;
 mod word;
 

@@ -13,6 +13,3 @@ pub use laws::{
     start_in_order, start_is_run, start_stays_inside, start_well_formed,
 };
 pub use timed::Timed;
-
-#[cfg(test)]
-mod tests;

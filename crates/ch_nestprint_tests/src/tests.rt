@@ -1,9 +1,9 @@
 //! Programs that are printed, and read back as the same programs.
 
-use crate::print_program;
 use ch_affine::Text;
 use ch_lex::tokens;
 use ch_nestparse::{ParsedProgram, parse_program};
+use ch_nestprint::print_program;
 use std::alloc::Global;
 use std::process::Abort;
 use std::test::Fail;

@@ -1,6 +1,6 @@
 //! Each call once, and the edges of the forms' limits, with values computed elsewhere.
 
-use crate::{Aff, AffError, Boxed, List, Range, System, Text, combine};
+use ch_affine::{Aff, AffError, Boxed, List, Range, System, Text, combine};
 use std::alloc::{AllocError, Global};
 use std::test::Fail;
 
