@@ -17,7 +17,7 @@ use Rattle.ch_grid.specs.declared.param.Param.{Param}
 use Rattle.ch_grid.proofs.Sizes.{within_facts}
 use Rattle.ch_rank.specs.Moves.{centre}
 use Rattle.ch_rank.proofs.Starting.{centre_point, sizes_some}
-use Rattle.ch_variant.proofs.GridValues.{values_small}
+use Rattle.ch_constrain.proofs.Values.{values_small}
 use Rattle.ch_workload.specs.Tuned.{Tuned}
 
 centre_long : (ps : List Param) → length (centre (sizes ps)) ≡ length ps

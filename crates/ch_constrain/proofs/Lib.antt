@@ -1,4 +1,5 @@
 pub mod Coordinates
+pub mod Values
 pub mod Numbered
 pub mod Least
 pub mod Onward

@@ -1,21 +1,19 @@
 -- One point after another: the next one, its number and its values.
-use Rattle.std.proofs.Common.{◌≡◌, refl, sym, ap, ap₂, ◌∙◌, subst, ℕ, zero, suc, ◌+◌, ◌-◌, ◌*◌, ◌^◌, ◌<◌, ◌≤◌, ◌≢◌, ℤ, pos, ◌*ℤ◌, unsigned_abs, nat_lt, true, IfSome, Option, Some, None, List, [], ◌∷◌, length, drop, get_or, set, slice_get, add-one, drop-cons, length-set, get_or-set_other, arith}
-use Rattle.std.specs.List.{All, list_all}
-use Rattle.std.proofs.Math.Nat.{mul-le-mul_left, mul-le-mul_right}
+use Rattle.std.proofs.Common.{◌≡◌, refl, sym, ap, ap₂, ◌∙◌, subst, ℕ, zero, suc, ◌+◌, ◌-◌, ◌*◌, ◌^◌, ◌<◌, ◌≤◌, ◌≢◌, ℤ, unsigned_abs, nat_lt, true, IfSome, Option, Some, None, List, [], ◌∷◌, length, drop, get_or, set, slice_get, add-one, drop-cons, length-set, get_or-set_other, arith}
+use Rattle.std.specs.List.{All}
 use Rattle.std.proofs.Math.ListN.{drop_of_length-le}
-use Rattle.std.proofs.lemmas.Bool.{and_from, and_parts, leb-true}
+use Rattle.std.proofs.lemmas.Bool.{and_from, and_parts}
 use Rattle.std.proofs.lemmas.Bool.Decides.{nat_tests}
-use Rattle.std.proofs.lemmas.Int.{ints, unsigned_abs-mul}
 use Rattle.std.proofs.lemmas.List.{drop-set, get_or-map}
-use Rattle.std.proofs.lemmas.List.Elements.{All-cons, All-nil}
 use Rattle.ch_affine.specs.Affine.{IsAtMost}
 use Rattle.ch_grid.specs.declared.param.Param.{Param}
-use Rattle.ch_grid.specs.Grid.{is_good, is_small, is_within, size, sizes, value_at}
+use Rattle.ch_grid.specs.Grid.{is_within, size, sizes, value_at}
 use Rattle.ch_grid.specs.Points.{count, is_point, number}
 use Rattle.ch_grid.proofs.PointNumbers.{below_of, same_length}
 use Rattle.ch_grid.proofs.Sizes.{good_at, size_few, within_facts}
 use Rattle.ch_constrain.specs.Nearest.{values}
 use Rattle.ch_constrain.proofs.Coordinates.{if_some, length_of, no_param, size_at}
+use Rattle.ch_constrain.proofs.Values.{values_small}
 
 less : (i j : ℕ) → i < j → nat_lt i j ≡ true
 less i j l = grind (arith, nat_tests)
@@ -51,32 +49,6 @@ values_long [] [] h = refl
 values_long [] (x ∷ xs) h = absurd (cc)
 values_long (p ∷ ps) [] h = absurd (cc)
 values_long (p ∷ ps) (x ∷ xs) h = ap (λ n. suc n) (values_long ps xs (and_parts (nat_lt x (size p)) (is_point (sizes ps) xs) h).1)
-
--- a value is small
-
-value_small : (p : Param) (x : ℕ) → is_good p ≡ true → x < size p → unsigned_abs (value_at p x) ≤ 2 ^ 54
-value_small p x h l =
-    let few : size p ≤ 2 ^ 22 = size_few p h in
-    let parts = and_parts _ (is_small p.step) h in
-    let before = and_parts _ (is_small p.high) parts.0 in
-    let first = and_parts _ (is_small p.low) before.0 in
-    let s : unsigned_abs p.step ≤ 2 ^ 20 = leb-true _ _ parts.1 in
-    let b : unsigned_abs p.low ≤ 2 ^ 20 = leb-true _ _ first.1 in
-    let i : unsigned_abs (pos x) ≤ 2 ^ 22 = omega arith in
-    let m : unsigned_abs (p.step *ℤ pos x) ≤ 2 ^ 42 = omega (arith, unsigned_abs-mul p.step (pos x), mul-le-mul_right (unsigned_abs (pos x)) s, mul-le-mul_left (2 ^ 20) i) in
-    omega (arith, ints, m)
-
-pub values_small : (ps : List Param) (xs : List ℕ) → list_all is_good ps ≡ true → is_point (sizes ps) xs ≡ true → All (IsAtMost (2 ^ 54)) (values ps xs)
-values_small [] [] g h = All-nil _
-values_small [] (x ∷ xs) g h = absurd (cc)
-values_small (p ∷ ps) [] g h = absurd (cc)
-values_small (p ∷ ps) (x ∷ xs) g h =
-    let good = and_parts (is_good p) (list_all is_good ps) g in
-    let in_grid = and_parts (nat_lt x (size p)) (is_point (sizes ps) xs) h in
-    All-cons (IsAtMost (2 ^ 54)) (value_at p x) (values ps xs) (value_small p x good.0 (below_of x (size p) in_grid.0)) (values_small ps xs good.1 in_grid.1)
-
-pub all_small : (ps : List Param) (xs : List ℕ) → is_within ps ≡ true → is_point (sizes ps) xs ≡ true → All (IsAtMost (2 ^ 54)) (values ps xs)
-all_small ps xs w h = values_small ps xs (within_facts ps w).good h
 
 -- the next point
 
@@ -170,7 +142,8 @@ module _ (ps : List Param) (xs : List ℕ) (numbers : List ℤ) (is : numbers �
   rows_fit long rows h = λ k d l. h k d l ∙ sym (ap length is ∙ values_long ps xs inside)
 
   pub numbers_small : is_within ps ≡ true → All (IsAtMost (2 ^ 54)) numbers
-  numbers_small w = subst (All (IsAtMost (2 ^ 54))) (sym is) (all_small ps xs w inside)
+  numbers_small w = subst (All (IsAtMost (2 ^ 54))) (sym is)
+      (λ k d l. let small : unsigned_abs (get_or (values ps xs) k d) ≤ 2 ^ 20 = values_small ps xs (within_facts ps w).good inside k d l in omega arith)
 
 -- a step at the index before m
 

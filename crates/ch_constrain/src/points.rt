@@ -29,10 +29,13 @@ pub(crate) fn point_at(alloc: Global, grid: &Grid, number: u32) -> Result<List<u
     Ok(point)
 }
 
-/// The value of each parameter at a point of a grid, which has an index for each of them.
+/// The value of each parameter at a point of a grid, which has an index for each of them. No value
+/// has a magnitude above 2^20.
 pub fn values_at(alloc: Global, grid: &Grid, point: &[u32]) -> Result<List<i64>, AllocError>
     requires { IsTrue (is_point (sizes grid.now.params) point.now) }
-    ensures { IfOk result (λ v. v ≡ values grid.now.params point.now) }
+    ensures exact { IfOk result (λ v. v ≡ values grid.now.params point.now) }
+    ensures count { IfOk result (λ v. length v ≡ length grid.now.params) }
+    ensures small { IfOk result (λ v. All (IsAtMost (2 ^ 20)) v) }
 {
     let mut values = List::with_capacity(alloc, point.len())?;
     for k in 0..point.len() {

@@ -6,3 +6,4 @@ pub mod CommandsFit
 pub mod SectionsFit
 pub mod ValuesFit
 pub mod RequirementsFit
+pub mod RecipeFacts

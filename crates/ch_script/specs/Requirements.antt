@@ -1,8 +1,9 @@
 -- A condition between parameters as an affine form of their values.
-use Rattle.std.specs.Prelude.{ℕ, ℤ, pos, ◌-ℤ◌, Bool, nat_eq, if◌then◌else◌, List, map}
+use Rattle.std.specs.Prelude.{ℕ, ℤ, pos, ◌-ℤ◌, Bool, nat_eq, if◌then◌else◌, List, length, map}
 use Rattle.std.specs.List.{range_with_len}
 use Rattle.ch_affine.specs.Affine.{form}
 use Rattle.ch_affine.specs.Form.{Form}
+use Rattle.ch_script.specs.Recipes.{RecipeParts}
 use Rattle.ch_script.specs.Values.{signed, total}
 use Rattle.ch_script.specs.declared.recipe.Cond.{Cond}
 use Rattle.ch_script.specs.declared.recipe.Of.{Of}
@@ -52,3 +53,11 @@ required params AtLeast left right = excess params left right (pos 0)
 -- left <= right is right - left, and left < right is right - left - 1.
 abbrev pub requirement : ℕ → Cond → Form
 requirement params c = required params c.relation c.left c.right
+
+-- the conditions between so many parameters as forms of their values
+abbrev pub all_requirements : ℕ → List Cond → List Form
+all_requirements params conditions = map (requirement params) conditions
+
+-- those of a recipe: each condition holds exactly where its form is at least 0
+abbrev pub requirements : RecipeParts → List Form
+requirements recipe = all_requirements (length recipe.params) recipe.conditions

@@ -17,6 +17,6 @@ mod word;
 
 pub use recipe::{Arg, Command, Cond, Of, Recipe, Relation, Term};
 pub use refusal::Refusal;
-pub use requirements::requirement_of;
+pub use requirements::{requirement_of, requirements_of};
 pub use section::{ParsedRecipe, parse_recipe};
 pub use values::condition_of;

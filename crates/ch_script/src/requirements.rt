@@ -1,15 +1,16 @@
 //! A condition between parameters as an affine form of their values.
 ghost use Rattle.std.specs.Prelude.{◌≡◌, ◌≤◌, ◌^◌, ℤ, pos, length};
 ghost use Rattle.std.specs.Prelude.{map, unsigned_abs, IfOk, IsTrue};
-ghost use Rattle.std.specs.List.{All, range_with_len};
+ghost use Rattle.std.specs.List.{All, list_all, range_with_len};
 ghost use Rattle.ch_affine.specs.Affine.{IsAtMost};
 ghost use Rattle.ch_script.specs.Recipes.{condition_fits};
-ghost use Rattle.ch_script.specs.Requirements.{excess, number_between, number_of};
-ghost use Rattle.ch_script.specs.Requirements.{requirement, weight_between, weight_of};
+ghost use Rattle.ch_script.specs.Requirements.{all_requirements, excess, number_between};
+ghost use Rattle.ch_script.specs.Requirements.{number_of, requirement, requirements};
+ghost use Rattle.ch_script.specs.Requirements.{weight_between, weight_of};
 ghost use Rattle.ch_script.specs.Values.{signed, total};
 ghost use Rattle.ch_script.specs.declared.recipe.Purpose.TheVariants.{Require};
 
-use crate::recipe::{Cond, Of, Relation, Term};
+use crate::recipe::{Cond, Of, Recipe, Relation, Term};
 use ch_affine::{Aff, List};
 use std::alloc::{AllocError, Global};
 
@@ -159,5 +160,36 @@ pub fn requirement_of(alloc: Global, cond: &Cond, params: u32) -> Result<Aff, Al
         Relation::AtMost => excess(alloc, params, right, left, 0),
         Relation::More => excess(alloc, params, left, right, 1),
         Relation::AtLeast => excess(alloc, params, left, right, 0),
+    }
+}
+
+/// The forms of conditions between so many parameters, each over their values.
+#[tactic(auto, using(crate::proofs::RequirementsFit::requirement_long))]
+pub fn requirements_of(
+    alloc: Global,
+    conditions: &[Cond],
+    params: u32,
+) -> Result<List<Aff>, AllocError>
+    requires params { params ≤ 6 }
+    requires fit { IsTrue (list_all (condition_fits Require params) conditions.now) }
+    ensures exact { IfOk result (λ rows. rows ≡ all_requirements params conditions.now) }
+    ensures long { IfOk result (λ rows. All (λ row. length row.coefs ≡ params) rows) }
+{
+    let mut rows = List::with_capacity(alloc, conditions.len())?;
+    for condition in conditions {
+        let row = requirement_of(alloc, condition, params)?;
+        rows.push(row)?;
+    }
+    Ok(rows)
+}
+
+impl Recipe {
+    /// The forms of the conditions between the parameters, each over the parameters' values.
+    #[tactic(auto, using(crate::proofs::RecipeFacts::few_params, crate::proofs::RecipeFacts::conditions_fit))]
+    pub fn requirements(&self, alloc: Global) -> Result<List<Aff>, AllocError>
+        ensures { IfOk result (λ rows. rows ≡ requirements self.now) }
+    {
+        self.known();
+        requirements_of(alloc, self.conditions.as_slice(), self.params.len() as u32)
     }
 }

@@ -5,7 +5,7 @@ use Rattle.ch_report.specs.Sessions.{part_lines}
 use Rattle.ch_report.specs.declared.part.SessionPart.{SessionPart}
 use Rattle.ch_search.specs.Parts.{ArePartsOf}
 use Rattle.ch_subject.specs.Subjects.{nest_of, recipe_in}
-use Rattle.ch_variant.specs.Points.{requirements}
+use Rattle.ch_script.specs.Requirements.{requirements}
 use Rattle.ch_workload.specs.Tuned.{Tuned}
 
 -- the lines of a session: points as values of its parameters, cells by the names of its program's arrays

@@ -4,31 +4,15 @@ ghost use Rattle.ch_report.specs.Sessions.{is_inside};
 ghost use Rattle.ch_search.specs.Parts.{AreInside};
 ghost use Rattle.ch_search.specs.Searched.{IsSearchText, lines_of, session_part};
 ghost use Rattle.ch_subject.specs.Subjects.{can_judge};
-ghost use Rattle.ch_variant.specs.Points.{requirements};
 ghost use Rattle.ch_workload.specs.Sessions.{session_fits};
 
 use crate::parts::parts_of;
-use ch_affine::{Aff, List, Text};
+use ch_affine::Text;
 use ch_deck::Deck;
 use ch_report::{SessionPart, Tuning, put_session};
-use ch_script::{Recipe, requirement_of};
 use ch_subject::{program_of, recipe_of};
 use ch_workload::SessionDecl;
 use std::alloc::{AllocError, Global};
-
-/// The conditions of a recipe as forms of its parameters' values.
-fn requirements(alloc: Global, recipe: &Recipe) -> Result<List<Aff>, AllocError>
-    ensures { IfOk result (λ rows. rows ≡ requirements recipe.now) }
-{
-    recipe.known();
-    let params = recipe.params.len() as u32;
-    let mut rows = List::with_capacity(alloc, recipe.conditions.len())?;
-    for condition in recipe.conditions.as_slice() {
-        let row = requirement_of(alloc, condition, params)?;
-        rows.push(row)?;
-    }
-    Ok(rows)
-}
 
 /// Adds the lines of a session, with what its search came to.
 fn put_part<'a>(
@@ -44,7 +28,7 @@ fn put_part<'a>(
     ensures { OnOk result (out.new ≡ out.old ++ session_part deck.now session.now part.now) }
 {
     let program = program_of(deck, session);
-    let conditions = requirements(alloc, recipe_of(deck, session))?;
+    let conditions = recipe_of(deck, session).requirements(alloc)?;
     let tuning = Tuning {
         name: &session.name,
         grid: &session.grid,

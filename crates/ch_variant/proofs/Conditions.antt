@@ -1,40 +1,24 @@
 -- The forms of a recipe's conditions, and the point that is used for a point.
-use Rattle.std.proofs.Common.{◌≡◌, sym, ap, ◌∙◌, subst, arith, ℕ, zero, suc, ◌+◌, ◌<◌, ◌≤◌, ℤ, pos, Option, Some, None, List, [], ◌∷◌, ◌++◌, length, map, get_or, take}
+use Rattle.std.proofs.Common.{◌≡◌, sym, ap, ◌∙◌, subst, ℕ, Option, Some, None, List, length, get_or}
 use Rattle.std.specs.Bool.{IsTrue}
-use Rattle.std.specs.List.{All, list_all}
+use Rattle.std.specs.List.{All}
 use Rattle.std.specs.Option.{MatchOption, unwrap_or}
-use Rattle.std.proofs.lemmas.Bool.{and_parts}
-use Rattle.std.proofs.lemmas.List.{map_more, take_all}
 use Rattle.std.proofs.lemmas.List.Elements.{All-map}
-use Rattle.std.proofs.lemmas.List.FromFn.{length-map-range_with_len}
 use Rattle.ch_affine.specs.Form.{Form}
 use Rattle.ch_grid.specs.Grid.{sizes}
 use Rattle.ch_grid.specs.Points.{is_point}
 use Rattle.ch_grid.specs.declared.param.Param.{Param}
 use Rattle.ch_constrain.specs.Nearest.{IsNearest, nearest}
-use Rattle.ch_script.specs.Recipes.{RecipeParts, condition_fits, is_recipe}
-use Rattle.ch_script.specs.Requirements.{excess, required, requirement, weight_between}
+use Rattle.ch_script.specs.Recipes.{RecipeParts}
+use Rattle.ch_script.specs.Requirements.{requirement, requirements}
 use Rattle.ch_script.specs.declared.recipe.Cond.{Cond}
-use Rattle.ch_script.specs.declared.recipe.Purpose.TheVariants.{Require}
-use Rattle.ch_script.specs.declared.recipe.Relation.{Relation}
-use Rattle.ch_script.specs.declared.recipe.Relation.TheVariants.{Less, AtMost, More, AtLeast}
-use Rattle.ch_script.specs.declared.recipe.Term.{Term}
-use Rattle.ch_variant.specs.Points.{requirements, used_point}
-use Rattle.ch_variant.proofs.RecipeFacts.{conditions_fit}
+use Rattle.ch_script.proofs.RequirementsFit.{requirement_long}
+use Rattle.ch_variant.specs.Points.{used_point}
 
 -- ---- each form has a coefficient for each parameter
 
-excess_wide : (params : ℕ) (more less : List Term) (by : ℤ) → length (excess params more less by).coefs ≡ params
-excess_wide params more less by = length-map-range_with_len (weight_between more less) 0 params
-
-required_wide : (params : ℕ) (r : Relation) (left right : List Term) → length (required params r left right).coefs ≡ params
-required_wide params Less left right = excess_wide params right left (pos 1)
-required_wide params AtMost left right = excess_wide params right left (pos 0)
-required_wide params More left right = excess_wide params left right (pos 1)
-required_wide params AtLeast left right = excess_wide params left right (pos 0)
-
 all_wide : (params : ℕ) (cs : List Cond) → All (λ c. length (requirement params c).coefs ≡ params) cs
-all_wide params cs = λ k d l. required_wide params (get_or cs k d).relation (get_or cs k d).left (get_or cs k d).right
+all_wide params cs = λ k d l. requirement_long params (get_or cs k d)
 
 pub requirements_wide : (recipe : RecipeParts) → All (λ (row : Form). length row.coefs ≡ length recipe.params) (requirements recipe)
 requirements_wide recipe =
@@ -47,32 +31,6 @@ pub rows_wide : (recipe : RecipeParts) (grid : List Param) (rows : List Form) �
 rows_wide recipe grid rows e f =
     subst (λ n. All (λ (row : Form). length row.coefs ≡ n) rows) (sym e)
     (subst (All (λ (row : Form). length row.coefs ≡ length recipe.params)) (sym f) (requirements_wide recipe))
-
--- ---- what the type of a recipe tells of its conditions
-
-at_condition : (n : ℕ) (cs : List Cond) (k : ℕ) (c : Cond) → IsTrue (list_all (condition_fits Require n) cs) → k < length cs → c ≡ get_or cs k c
-    → IsTrue (condition_fits Require n c)
-at_condition n [] k c h l e = absurd (omega arith)
-at_condition n (d ∷ ds) zero c h l e = subst (λ x. IsTrue (condition_fits Require n x)) (sym e) (and_parts (condition_fits Require n d) (list_all (condition_fits Require n) ds) h).0
-at_condition n (d ∷ ds) (suc k) c h l e = at_condition n ds k c (and_parts (condition_fits Require n d) (list_all (condition_fits Require n) ds) h).1 (omega arith) e
-
-pub condition_at_fits : (r : RecipeParts) (k : ℕ) (c : Cond) → IsTrue (is_recipe r) → k < length r.conditions → c ≡ get_or r.conditions k c
-    → IsTrue (condition_fits Require (length r.params) c)
-condition_at_fits r k c h l e = at_condition (length r.params) r.conditions k c (conditions_fit r h) l e
-
--- the next condition, where a slice has the conditions
-pub condition_of : (items cs : List Cond) (k : ℕ) (c : Cond) → items ≡ cs → k < length items → c ≡ get_or items k c → (k < length cs) × (c ≡ get_or cs k c)
-condition_of items cs k c e l i = subst (λ xs. (k < length xs) × (c ≡ get_or xs k c)) e (l, i)
-
--- one form more
-pub one_form_more : (n : ℕ) (cs : List Cond) (k : ℕ) (c : Cond) (f : Form) (rows : List Form) → k < length cs → c ≡ get_or cs k c → f ≡ requirement n c
-    → rows ≡ map (requirement n) (take k cs) → rows ++ f ∷ [] ≡ map (requirement n) (take (k + 1) cs)
-one_form_more n cs k c f rows l e g h =
-    ap (λ rs. rs ++ f ∷ []) h ∙ ap (λ x. map (requirement n) (take k cs) ++ x ∷ []) (g ∙ ap (requirement n) e) ∙ sym (map_more (requirement n) cs k c l)
-
-pub all_forms : (n : ℕ) (items cs : List Cond) (k : ℕ) (rows : List Form) → items ≡ cs → length items ≤ k → rows ≡ map (requirement n) (take k cs)
-    → rows ≡ map (requirement n) cs
-all_forms n items cs k rows e l h = h ∙ ap (map (requirement n)) (take_all k cs (subst (λ xs. length xs ≤ k) e l))
 
 -- ---- the point that is used
 

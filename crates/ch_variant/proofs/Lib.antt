@@ -1,4 +1,3 @@
-pub mod GridValues
 pub mod Conditions
 pub mod Stepwise
 pub mod Turns

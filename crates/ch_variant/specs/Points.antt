@@ -1,14 +1,9 @@
 -- The point of a grid at which a recipe is built, and the values of its parameters there.
-use Rattle.std.specs.Prelude.{ℕ, ℤ, List, length, map, unwrap_or}
-use Rattle.ch_affine.specs.Form.{Form}
+use Rattle.std.specs.Prelude.{ℕ, ℤ, List, unwrap_or}
 use Rattle.ch_constrain.specs.Nearest.{nearest, values}
 use Rattle.ch_grid.specs.declared.param.Param.{Param}
 use Rattle.ch_script.specs.Recipes.{RecipeParts}
-use Rattle.ch_script.specs.Requirements.{requirement}
-
--- The conditions between a recipe's parameters, as forms of their values: each holds exactly where its form is at least 0.
-abbrev pub requirements : RecipeParts → List Form
-requirements recipe = map (requirement (length recipe.params)) recipe.conditions
+use Rattle.ch_script.specs.Requirements.{requirements}
 
 -- The nearest point that meets the conditions. Where no point of the grid does, it is the point itself.
 abbrev pub used_point : RecipeParts → List Param → List ℕ → List ℕ

@@ -16,10 +16,11 @@ ghost use Rattle.ch_variant.specs.Variants.{Refuses, applied_at, origin_at};
 
 use crate::applying::apply;
 use crate::error::ApplyError;
-use crate::point::{used_point, values_at};
+use crate::point::used_point;
 use crate::variant::{Source, Variant};
 use ch_affine::List;
 use ch_codegen::generate;
+use ch_constrain::values_at;
 use ch_grid::Grid;
 use ch_nest::Nest;
 use ch_script::Recipe;

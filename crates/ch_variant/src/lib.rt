@@ -15,5 +15,5 @@ pub use applying::{apply, only_reorders};
 pub use building::{build, original};
 pub use error::ApplyError;
 pub use judging::{Judgement, judge};
-pub use point::{used_point, values_at};
+pub use point::used_point;
 pub use variant::Variant;

@@ -1,31 +1,15 @@
 //! Whether some point of a grid meets the conditions between its parameters.
-ghost use Rattle.std.specs.Prelude.{◌≡◌, ◌≤◌, length, IfOk, IsTrue};
-ghost use Rattle.std.specs.List.{All, list_all};
+ghost use Rattle.std.specs.Prelude.{◌≡◌, length, IfOk, IsTrue};
+ghost use Rattle.std.specs.List.{list_all};
 ghost use Rattle.ch_script.specs.Recipes.{condition_fits};
 ghost use Rattle.ch_script.specs.declared.recipe.Purpose.TheVariants.{Require};
-ghost use Rattle.ch_workload.specs.Admissible.{first_point, has_admissible, requirements};
+ghost use Rattle.ch_workload.specs.Admissible.{first_point, has_admissible};
 
-use ch_affine::{Aff, List};
+use ch_affine::List;
 use ch_constrain::nearest;
 use ch_grid::Grid;
-use ch_script::{Cond, requirement_of};
+use ch_script::{Cond, requirements_of};
 use std::alloc::{AllocError, Global};
-
-/// The conditions between so many parameters as forms of their values.
-#[tactic(auto, using(crate::proofs::Admitted::requirement_long))]
-fn requirements(alloc: Global, params: u32, conditions: &[Cond]) -> Result<List<Aff>, AllocError>
-    requires params { params ≤ 6 }
-    requires fit { IsTrue (list_all (condition_fits Require params) conditions.now) }
-    ensures exact { IfOk result (λ rows. rows ≡ requirements params conditions.now) }
-    ensures long { IfOk result (λ rows. All (λ row. length row.coefs ≡ params) rows) }
-{
-    let mut rows = List::with_capacity(alloc, conditions.len())?;
-    for condition in conditions {
-        let row = requirement_of(alloc, condition, params)?;
-        rows.push(row)?;
-    }
-    Ok(rows)
-}
 
 /// The point with the low end of each range.
 fn first_point(alloc: Global, grid: &Grid) -> Result<List<u32>, AllocError>
@@ -45,7 +29,7 @@ pub(crate) fn has_admissible(
     requires fit { IsTrue (list_all (condition_fits Require (length grid.now.params)) conditions.now) }
     ensures { IfOk result (λ found. found ≡ has_admissible conditions.now grid.now.params) }
 {
-    let rows = requirements(alloc, grid.params.len() as u32, conditions)?;
+    let rows = requirements_of(alloc, conditions, grid.params.len() as u32)?;
     let first = first_point(alloc, grid)?;
     let found = nearest(alloc, grid, rows.as_slice(), first.as_slice())?;
     Ok(found.is_some())

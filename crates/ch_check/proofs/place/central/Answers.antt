@@ -11,11 +11,11 @@ returns-clause-long c =
     let params = c.args.grid.now.params in
     let point = c.as_slice.result.now in
     IfOk-weaker c.values_at.result (λ v. v ≡ values params point) (λ v. length v ≡ length params)
-    (λ v e. central_long params v (e ∙ ap (values params) (c.as_slice.ensures ∙ c.in_ok-point.ensures.exact))) c.values_at.ensures
+    (λ v e. central_long params v (e ∙ ap (values params) (c.as_slice.ensures ∙ c.in_ok-point.ensures.exact))) c.values_at.ensures.exact
 
 pub returns-clause-small : goal.returns-clause-small
 returns-clause-small c =
     let params = c.args.grid.now.params in
     let point = c.as_slice.result.now in
     IfOk-weaker c.values_at.result (λ v. v ≡ values params point) (λ v. All (IsAtMost (2 ^ 20)) v)
-    (λ v e. central_small params v c.args.grid.now.within (e ∙ ap (values params) (c.as_slice.ensures ∙ c.in_ok-point.ensures.exact))) c.values_at.ensures
+    (λ v e. central_small params v c.args.grid.now.within (e ∙ ap (values params) (c.as_slice.ensures ∙ c.in_ok-point.ensures.exact))) c.values_at.ensures.exact

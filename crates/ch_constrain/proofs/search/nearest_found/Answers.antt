@@ -22,4 +22,4 @@ scan-requires-clause-first c =
 
 pub scan-requires-clause-numbers : goal.scan-requires-clause-numbers
 scan-requires-clause-numbers c =
-    c.as_mut_slice-numbers.ensures.value ∙ c.in_ok-values.ensures ∙ ap (values c.args.grid.now.params) (c.as_slice.ensures ∙ sym c.as_mut_slice-indices.ensures.value)
+    c.as_mut_slice-numbers.ensures.value ∙ c.in_ok-values.ensures.exact ∙ ap (values c.args.grid.now.params) (c.as_slice.ensures ∙ sym c.as_mut_slice-indices.ensures.value)

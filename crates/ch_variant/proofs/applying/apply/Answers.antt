@@ -5,7 +5,8 @@ use Rattle.ch_variant.specs.Applied.{IsAnswer, applied, plain}
 use Rattle.ch_variant.specs.Commands.{reorders}
 use Rattle.ch_variant.specs.Refusals.{PairIsLeast}
 use Rattle.ch_variant.proofs.Kept.{keeps_nest, runs_nest}
-use Rattle.ch_variant.proofs.RecipeFacts.{all_done, at_command, command_at_fits, few_commands, item_of}
+use Rattle.ch_script.proofs.RecipeFacts.{few_commands}
+use Rattle.ch_variant.proofs.RecipeFacts.{all_done, at_command, command_at_fits, item_of}
 use Rattle.ch_variant.proofs.Stepwise.{answer_stops, at_exit, pair_stops, reached_all}
 use Rattle.ch_variant.proofs.Turns.{Holds, freed_now, one_more}
 use Rattle.ch_variant.proofs.applying.apply.Goals.{then-frees_sums, else-frees_sums+in_ok-space-2}

@@ -3,8 +3,8 @@ use Rattle.std.specs.List.{All}
 use Rattle.std.proofs.lemmas.List.Elements.{All-push}
 use Rattle.ch_affine.specs.Form.{Form}
 use Rattle.ch_script.specs.Requirements.{requirement}
-use Rattle.ch_workload.proofs.Admitted.{requirement_long, rows_more}
-use Rattle.ch_workload.proofs.admissible.requirements.Goals as goal
+use Rattle.ch_script.proofs.RequirementsFit.{requirement_long, rows_more}
+use Rattle.ch_script.proofs.requirements.requirements_of.Goals as goal
 
 pub loop-condition-preserved : goal.loop-condition-preserved
 loop-condition-preserved c =

@@ -1,6 +1,0 @@
-use Rattle.std.proofs.Common.{◌≡◌, length, map, take}
-use Rattle.ch_script.specs.Requirements.{requirement}
-use Rattle.ch_variant.proofs.point.requirements.Given as goal
-
-abbrev pub invariant-loop-condition : goal.invariant-loop-condition
-invariant-loop-condition l = l.rows ≡ map (requirement (length l.recipe.params)) (take l.condition-index l.recipe.conditions)
