@@ -9,10 +9,10 @@ ghost use Rattle.ch_codegen.specs.Parts.{Lists};
 ghost use Rattle.ch_codegen.specs.Made.{leaf, guard};
 
 use crate::everywhere::is_everywhere;
-use ch_affine::{Boxed, List, Range};
+use ch_affine::{Boxed, List, Range, copied_forms};
 use ch_code::Code;
 use ch_space::Piece;
-use ch_space::copies::{copied_body, copied_forms, copied_system};
+use ch_space::copies::copied_body;
 use std::alloc::{AllocError, Global};
 
 /// The statement of a piece, for values of all its levels.
@@ -34,7 +34,7 @@ fn statement(alloc: Global, piece: &Piece) -> Result<Code, AllocError>
 fn guarded_statement(alloc: Global, piece: &Piece) -> Result<Code, AllocError>
     ensures { IfOk result (λ code. code ≡ guard piece.now) }
 {
-    let system = copied_system(alloc, &piece.system)?;
+    let system = piece.system.copied(alloc)?;
     let inner = statement(alloc, piece)?;
     let inner = Boxed::new(alloc, inner)?;
     Ok(Code::Guard { system, inner })

@@ -12,11 +12,11 @@ ghost use Rattle.ch_space.specs.Pieces.{instances};
 use crate::cells::Cells;
 use crate::places::{Spread, move_places, spread_places};
 use crate::redirect::{Target, in_body, out_body, redirected};
-use ch_affine::{Aff, List};
+use ch_affine::{Aff, List, copied_forms};
 use ch_moved::units::unit;
 use ch_nest::Body;
 use ch_pieces::Candidate;
-use ch_space::copies::{copied_body, copied_forms, copied_system};
+use ch_space::copies::copied_body;
 use ch_space::{Piece, share};
 use ch_timed::Label;
 use std::alloc::{AllocError, Global};
@@ -96,7 +96,7 @@ fn kept(
         body: kept_body(alloc, work, extents, is_ours, &piece.body)?,
         levels: piece.levels,
         hidden: piece.hidden,
-        system: copied_system(alloc, &piece.system)?,
+        system: piece.system.copied(alloc)?,
         origin: copied_forms(alloc, piece.origin.as_slice())?,
         places: List::from_slice(alloc, places)?,
     };

@@ -11,8 +11,7 @@ ghost use Rattle.ch_moved.specs.Substituted.{image};
 ghost use Rattle.ch_nest.specs.Shape.{least_in, least_term};
 
 use ch_affine::wide::{plus, times};
-use ch_affine::{Aff, List, Range};
-use ch_space::copies::copied_forms;
+use ch_affine::{Aff, List, Range, copied_forms};
 use std::alloc::{AllocError, Global};
 
 fn least_term(coef: i64, range: Range) -> i128

@@ -14,7 +14,7 @@ use crate::flat::{FlatExpr, FlatItem, run_flats};
 use crate::nest::{Access, ArrayDecl, Expr, Item, Nest, Sub};
 use crate::place::total;
 use crate::run::run_nest;
-use ch_affine::{Aff, AffError, Boxed, List, combine};
+use ch_affine::{Aff, AffError, Boxed, List, combine, copied_forms};
 use std::alloc::{AllocError, Global};
 
 /// The magnitude up to which a form may have numbers at all.
@@ -132,16 +132,6 @@ fn expr_form(
     }
 }
 
-fn copied(alloc: Global, forms: &[Aff]) -> Result<List<Aff>, AllocError>
-    ensures { IfOk result (λ copies. copies ≡ forms.now) }
-{
-    let mut copies = List::with_capacity(alloc, forms.len())?;
-    for form in forms {
-        copies.push(form.copied(alloc)?)?;
-    }
-    Ok(copies)
-}
-
 #[cycle(form)]
 fn items_form(
     alloc: Global,
@@ -185,8 +175,8 @@ fn item_form(
             step,
             items,
         } => {
-            let lows = copied(alloc, lows.as_slice())?;
-            let highs = copied(alloc, highs.as_slice())?;
+            let lows = copied_forms(alloc, lows.as_slice())?;
+            let highs = copied_forms(alloc, highs.as_slice())?;
             let items = items_form(alloc, arrays, items.as_slice(), depth + 1)?;
             Ok(FlatItem::Loop {
                 level: depth as u32,

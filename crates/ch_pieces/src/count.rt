@@ -9,10 +9,9 @@ ghost use Rattle.ch_pieces.specs.Counting.{IsLow, IsNextValue, IsRest, count_fro
 ghost use Rattle.ch_space.specs.Following.{single, with_boxes};
 ghost use Rattle.ch_space.specs.Pieces.{instances};
 
-use ch_affine::{List, Range, System};
+use ch_affine::{List, Range, System, copied_forms};
 use ch_poly::{Room, has_point, least_point};
 use ch_space::Piece;
-use ch_space::copies::copied_forms;
 use std::alloc::{AllocError, Global};
 
 /// How many instances the piece has.

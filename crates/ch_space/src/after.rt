@@ -16,11 +16,11 @@ ghost use Rattle.ch_space.specs.Following.{narrowed, shared, single, with_boxes}
 ghost use Rattle.ch_space.specs.Keeps.{AreApart, IsWhole};
 ghost use Rattle.ch_space.specs.Pieces.{element_at, elements, instances, listed};
 
-use crate::copies::{copied_body, copied_forms};
+use crate::copies::copied_body;
 use crate::extremes::identity_at;
 use crate::piece::Piece;
 use crate::space::Space;
-use ch_affine::{List, Range, System};
+use ch_affine::{List, Range, System, copied_forms};
 use ch_poly::least_point;
 use ch_timed::{Element, Timed};
 use std::alloc::{AllocError, Global};

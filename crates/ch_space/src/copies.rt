@@ -4,33 +4,9 @@ ghost use Rattle.std.specs.Prelude.{◌≡◌, IfOk};
 
 use crate::piece::Piece;
 use crate::space::Space;
-use ch_affine::{Aff, Boxed, List, System};
+use ch_affine::{Boxed, List, copied_forms};
 use ch_nest::{Access, Body, Expr, Sub};
 use std::alloc::{AllocError, Global};
-
-/// Forms of their own with the same numbers.
-pub fn copied_forms(alloc: Global, forms: &[Aff]) -> Result<List<Aff>, AllocError>
-    ensures { IfOk result (λ copy. copy ≡ forms.now) }
-{
-    let mut copy = List::with_capacity(alloc, forms.len())?;
-    for form in forms {
-        copy.push(form.copied(alloc)?)?;
-    }
-    Ok(copy)
-}
-
-/// A system of its own with the same rows and ranges.
-pub fn copied_system(alloc: Global, system: &System) -> Result<System, AllocError>
-    ensures { IfOk result (λ copy. copy ≡ system.now) }
-{
-    let rows = copied_forms(alloc, system.rows.as_slice())?;
-    let boxes = List::from_slice(alloc, system.boxes.as_slice())?;
-    Ok(System {
-        vars: system.vars,
-        rows,
-        boxes,
-    })
-}
 
 fn copied_subscript(alloc: Global, subscript: &Sub) -> Result<Sub, AllocError>
     ensures { IfOk result (λ copy. copy ≡ subscript.now) }
@@ -104,7 +80,7 @@ pub fn copied_piece(alloc: Global, piece: &Piece) -> Result<Piece, AllocError>
         body: copied_body(alloc, &piece.body)?,
         levels: piece.levels,
         hidden: piece.hidden,
-        system: copied_system(alloc, &piece.system)?,
+        system: piece.system.copied(alloc)?,
         origin: copied_forms(alloc, piece.origin.as_slice())?,
         places: List::from_slice(alloc, piece.places.as_slice())?,
     })

@@ -3,8 +3,7 @@ ghost use Rattle.ch_nest.specs.Limits.{deepest};
 ghost use Rattle.ch_space.specs.Statements.{loops};
 ghost use Rattle.ch_space.specs.declared.level.Around.TheVariants.{Inside, Where};
 
-use crate::copies::copied_forms;
-use ch_affine::{Aff, List};
+use ch_affine::{Aff, List, copied_forms};
 use std::alloc::{AllocError, Global};
 
 /// A loop around a statement: its values are the greatest of `lows` and what follows by `step`, as
