@@ -5,12 +5,10 @@ ghost use Rattle.ch_meeting.specs.Placed.{cell_boxes, only, pair_boxes, turn_ran
 ghost use Rattle.ch_space.specs.Keeps.{IsWhole};
 
 use crate::question::TwoAccesses;
-use ch_affine::{List, Range};
+use ch_affine::{LARGEST_END, List, Range};
 use ch_nest::Sub;
 use ch_space::Piece;
 use std::alloc::AllocError;
-
-const RANGE_LIMIT: i64 = 1 << 54;
 
 fn push_ranges(boxes: &mut List<Range>, more: &[Range]) -> Result<(), AllocError>
     ensures { OnOk result (boxes.new ≡ boxes.old ++ more.now) }
@@ -27,8 +25,8 @@ pub(crate) fn push_wides(boxes: &mut List<Range>, count: usize) -> Result<(), Al
 {
     for _k in 0..count {
         boxes.push(Range {
-            low: -RANGE_LIMIT,
-            high: RANGE_LIMIT,
+            low: -LARGEST_END,
+            high: LARGEST_END,
         })?;
     }
     Ok(())
@@ -42,8 +40,8 @@ fn turn_range(modulus: u32) -> Range
         return Range { low: 0, high: 0 };
     }
     Range {
-        low: -RANGE_LIMIT,
-        high: RANGE_LIMIT,
+        low: -LARGEST_END,
+        high: LARGEST_END,
     }
 }
 

@@ -10,7 +10,7 @@ ghost use Rattle.ch_moved.specs.Substituted.{combined, substituted};
 ghost use Rattle.ch_space.specs.Built.{zeros};
 
 use ch_affine::wide::plus;
-use ch_affine::{Aff, List};
+use ch_affine::{Aff, LARGEST_COEFFICIENT, List};
 use std::alloc::{AllocError, Global};
 
 fn product(left: i64, right: i64) -> i128
@@ -58,7 +58,7 @@ fn constant(start: i64, factors: &[i64], forms: &[Aff]) -> i128
 fn narrowed(number: i128) -> Option<i64>
     ensures { MatchOption result (IsAtMost (2 ^ 60) number → ⊥) (λ n. n ≡ number) }
 {
-    if number.unsigned_abs() > 1 << 60 {
+    if number.unsigned_abs() > LARGEST_COEFFICIENT as u128 {
         return None;
     }
     Some(number as i64)

@@ -14,11 +14,8 @@ use crate::flat::{FlatExpr, FlatItem, run_flats};
 use crate::nest::{Access, ArrayDecl, Expr, Item, Nest, Sub};
 use crate::place::total;
 use crate::run::run_nest;
-use ch_affine::{Aff, AffError, Boxed, List, combine, copied_forms};
+use ch_affine::{Aff, AffError, Boxed, LARGEST_COEFFICIENT, List, combine, copied_forms};
 use std::alloc::{AllocError, Global};
-
-/// The magnitude up to which a form may have numbers at all.
-const MOST: i64 = 1 << 60;
 
 /// A form of `depth` variables that has this value everywhere.
 fn plain(alloc: Global, depth: usize, constant: usize) -> Result<Aff, AllocError>
@@ -47,7 +44,14 @@ fn row_major_form(alloc: Global, at: Aff, extents: &[u32], subs: &[Sub]) -> Resu
         [extent, inner @ ..] => match subs {
             [] => Ok(at),
             [sub, others @ ..] => {
-                let next = combine(alloc, i64::from(*extent), &at, 1, &sub.form, MOST)?;
+                let next = combine(
+                    alloc,
+                    i64::from(*extent),
+                    &at,
+                    1,
+                    &sub.form,
+                    LARGEST_COEFFICIENT,
+                )?;
                 row_major_form(alloc, next, inner, others)
             }
         },
@@ -71,7 +75,7 @@ fn place_form(
     let start = plain(alloc, depth, 0)?;
     let extents = arrays[k].extents.as_slice();
     let within = row_major_form(alloc, start, extents, access.subs.as_slice())?;
-    combine(alloc, 1, &base, 1, &within, MOST)
+    combine(alloc, 1, &base, 1, &within, LARGEST_COEFFICIENT)
 }
 
 #[cycle(right)]

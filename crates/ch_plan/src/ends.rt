@@ -7,6 +7,7 @@ ghost use Rattle.ch_plan.specs.Planned.{high_end, high_of, low_end, low_of, turn
 
 use crate::plan::Limit;
 use crate::sums::{wide_negated, wide_value};
+use ch_affine::LARGEST_END;
 
 fn low_end(limit: &Limit, point: &[i64]) -> i128
     ensures { result ≡ low_end limit.now point.now }
@@ -53,7 +54,7 @@ pub(crate) fn least_high(highs: &[Limit], point: &[i64]) -> i128
 fn is_small(number: i128) -> bool
     ensures { IsTrue result ↔ IsAtMost (2 ^ 54) number }
 {
-    number.unsigned_abs() <= 1 << 54
+    number.unsigned_abs() <= LARGEST_END as u128
 }
 
 fn turns_of(low: i128, high: i128) -> u64

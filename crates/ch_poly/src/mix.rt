@@ -9,8 +9,8 @@ ghost use Rattle.ch_poly.specs.Mixes.{IsAdded, IsImplied};
 use crate::cut::cut_all;
 use crate::peak::most;
 use crate::simplex::factor;
-use ch_affine::Aff;
 use ch_affine::wide::{plus, scaled};
+use ch_affine::{Aff, LARGEST_COEFFICIENT};
 
 fn added(sum: i64, factor: i64, coef: i64) -> i128
     requires { IsAtMost (2 ^ 60) coef }
@@ -36,7 +36,7 @@ fn add_row(factor: i64, row: &[i64], sums: &mut [i64]) -> bool
 {
     for k in 0..row.len() {
         let sum = added(sums[k], factor, row[k]);
-        if sum.unsigned_abs() > 1 << 60 {
+        if sum.unsigned_abs() > LARGEST_COEFFICIENT as u128 {
             return false;
         }
         sums[k] = narrowed(sum);

@@ -20,13 +20,10 @@ use crate::copies::copied_body;
 use crate::extremes::identity_at;
 use crate::piece::Piece;
 use crate::space::Space;
-use ch_affine::{List, Range, System, copied_forms};
+use ch_affine::{LARGEST_END, List, Range, System, copied_forms};
 use ch_poly::least_point;
 use ch_timed::{Element, Timed};
 use std::alloc::{AllocError, Global};
-
-/// The greatest magnitude of an end of a system's range.
-const RANGE_LIMIT: i64 = 1 << 54;
 
 impl Timed for Space {
     ghost list = { λ s. s.list };
@@ -184,13 +181,13 @@ fn least_beyond(
         IsLeast (BeginsWith fixed.now (IsAbove value)) (instances piece.now) least) }
 {
     piece.system.known();
-    if value >= RANGE_LIMIT {
+    if value >= LARGEST_END {
         return Ok(None);
     }
     let mut front = singles(alloc, fixed)?;
     front.push(Range {
         low: value + 1,
-        high: RANGE_LIMIT,
+        high: LARGEST_END,
     })?;
     least_in(alloc, piece, front.as_slice())
 }

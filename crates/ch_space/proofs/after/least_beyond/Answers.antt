@@ -3,10 +3,10 @@ use Rattle.std.proofs.lemmas.Int.{ints, to_z-of_z}
 use Rattle.ch_space.proofs.Narrowed.{least_above_ok, least_too_far}
 use Rattle.ch_space.proofs.after.least_beyond.Goals as goal
 
-pub returns-then-value-ge-RANGE_LIMIT : goal.returns-then-value-ge-RANGE_LIMIT
-returns-then-value-ge-RANGE_LIMIT c =
+pub returns-then-value-ge-LARGEST_END : goal.returns-then-value-ge-LARGEST_END
+returns-then-value-ge-LARGEST_END c =
     let fits : SFits w64 c.args.value = c.ranges.value in
-    let test = simp to_z-of_z at c.if-value-ge-RANGE_LIMIT.true in
+    let test = simp to_z-of_z at c.if-value-ge-LARGEST_END.true in
     let far : pos (2 ^ 54) ≤ℤ c.args.value = grind (arith, ints) in
     least_too_far c.args.piece.now c.args.fixed.now c.args.value c.known.ensures far
 
