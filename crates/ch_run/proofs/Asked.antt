@@ -1,5 +1,5 @@
 -- What is asked for is answered, and its values are small.
-use Rattle.std.proofs.Common.{◌≡◌, ℕ, ℤ, List, Option, Some, None, refl, sym, ◌∙◌, ap, subst}
+use Rattle.std.proofs.Common.{◌≡◌, ℕ, List, Option, Some, None, sym, ap, subst}
 use Rattle.std.specs.Prelude.{IfSome, option_and_then}
 use Rattle.ch_run.specs.Requests.{answered, asked_of}
 use Rattle.ch_words.specs.Requests.{HasSmallValues, request_of}

@@ -1,12 +1,11 @@
 -- What a deck that isn't refused by what is asked of it meets.
-use Rattle.std.proofs.Common.{◌≡◌, ℕ, ℤ, Bool, true, false, if◌then◌else◌, List, Option, Some, None, IfSome, refl, subst, inl, inr, ◌≤◌, ◌⊎◌, arith}
+use Rattle.std.proofs.Common.{◌≡◌, ℕ, ℤ, Bool, true, false, if◌then◌else◌, List, Option, Some, None, IfSome, refl, subst, inl, inr, arith}
 use Rattle.std.specs.Bool.{IsTrue}
 use Rattle.std.specs.List.{All}
 use Rattle.std.specs.Option.{ForSome, option_or}
 use Rattle.ch_affine.specs.Affine.{IsAtMost}
 use Rattle.ch_check.specs.Sessions.{fits_all}
 use Rattle.ch_deck.specs.Parts.{DeckParts}
-use Rattle.ch_lex.specs.declared.error.Code2.{Code2}
 use Rattle.ch_lex.specs.declared.error.Code2.TheVariants.{D11, R2}
 use Rattle.ch_run.specs.Answers.{unfit_values, unknown_command}
 use Rattle.ch_run.specs.Conduct.{IsWhole}

@@ -59,11 +59,7 @@ fn put_programs(
 
 /// The text of `eval`: all elements of arrays, or their sums alone.
 #[tactic(auto, unfolding(crate::specs::EvalText::eval_text))]
-pub(crate) fn eval_text(
-    alloc: Global,
-    sums: bool,
-    programs: &[Program],
-) -> Result<Text, AllocError>
+pub(crate) fn eval_text(alloc: Global, sums: bool, programs: &[Program]) -> Result<Text, AllocError>
     requires { All IsProgram programs.now }
     ensures { IfOk result (λ text. text ≡ eval_text sums programs.now) }
 {

@@ -58,12 +58,7 @@ fn put_cells(out: &mut Text, sums: bool, cells: &[i64]) -> Result<(), AllocError
 
 /// Adds an array's name, its extents, and its elements or their sum, in a line.
 #[tactic(auto, unfolding(crate::specs::EvalText::array_line))]
-fn put_array(
-    out: &mut Text,
-    sums: bool,
-    array: &ArrayDecl,
-    cells: &[i64],
-) -> Result<(), AllocError>
+fn put_array(out: &mut Text, sums: bool, array: &ArrayDecl, cells: &[i64]) -> Result<(), AllocError>
     requires { length cells.now ≤ 2 ^ 40 }
     ensures { OnOk result (out.new ≡ out.old ++ array_line sums array.now cells.now) }
 {
