@@ -2,7 +2,7 @@
 //! answers and with which status.
 //!
 //! The first line of a deck is a comment that has the words to run it with, as
-//! `# chilltune search`. The folder is the one that the program runs in, or the one that its
+//! `# chilltune check --at 2`. The folder is the one that the program runs in, or the one that its
 //! first argument names.
 #![tactic(auto)]
 

@@ -6,17 +6,23 @@ use Rattle.ch_io.specs.Streams.{AppendsPart}
 use Rattle.ch_run.specs.Answers.{Answers, AnswersInPart, most_read}
 use Rattle.ch_run.specs.Requests.{asked_of}
 use Rattle.ch_words.specs.Usage.{usage}
-use Rattle.ch_run.specs.Conduct.{Conduct, Standing}
+use Rattle.ch_run.specs.Conduct.{Conduct, IsWhole, Standing}
 use Rattle.ch_words.specs.declared.request.Request.{Request}
 
 -- the status is none but 2 and 4
-small : (status : ℕ) → (status ≡ 2) ⊎ (status ≡ 4) → status ≤ 5
+small : (status : ℕ) → (status ≡ 2) ⊎ (status ≡ 4) → status ≤ 6
 small status (inl e) = omega (arith, e)
 small status (inr e) = omega (arith, e)
 
-large : (status : ℕ) → (status ≡ 2) ⊎ (status ≡ 4) → status ≤ 1 → ⊥
-large status (inl e) l = omega (arith, e, l)
-large status (inr e) l = omega (arith, e, l)
+large : (status : ℕ) → (status ≡ 2) ⊎ (status ≡ 4) → IsWhole status → ⊥
+large status (inl e) (inl l) = omega (arith, e, l)
+large status (inl e) (inr l) = omega (arith, e, l)
+large status (inr e) (inl l) = omega (arith, e, l)
+large status (inr e) (inr l) = omega (arith, e, l)
+
+not_five : (status : ℕ) → status ≡ 5 → IsWhole status → ⊥
+not_five status e (inl l) = omega (arith, e, l)
+not_five status e (inr l) = omega (arith, e, l)
 
 no_three : (status : ℕ) → (status ≡ 2) ⊎ (status ≡ 4) → status ≡ 3 → ⊥
 no_three status (inl e) h = omega (arith, e, h)
@@ -34,8 +40,8 @@ usable status (inr e) = inr (inl e)
 pub without_memory : (words : List (List ℕ)) (old new : Standing) (status : ℕ) → status ≡ 5 → new ≡ old → Conduct words old new status
 without_memory words old new status e same = record {
   known = omega (arith, e);
-  answer = λ l. absurd (omega (arith, e, l));
-  read = λ l. absurd (omega (arith, e, l));
+  answer = λ l. absurd (not_five status e l);
+  read = λ l. absurd (not_five status e l);
   usage_line = λ h. absurd (omega (arith, e, h));
   other_words = λ h. absurd (omega (arith, e, h));
   usable_words = λ _. inr (inr e);
@@ -70,8 +76,8 @@ some_none : {A : Type 0} (c : A) (o : Option A) → o ≡ Some c → o ≡ None 
 some_none c o s n = cc
 
 -- a request that was carried out
-pub carried : (words : List (List ℕ)) (r : Request) (old new : Standing) (status : ℕ) → asked_of words ≡ Some r → status ≤ 5 → status ≢ 2
-    → (status ≤ 1 → IfSome old.left (λ bytes. Answers r bytes old.taken new.taken status)) → (status ≤ 1 → IfSome old.left (λ bytes. new.left ≡ Some (drop most_read bytes)))
+pub carried : (words : List (List ℕ)) (r : Request) (old new : Standing) (status : ℕ) → asked_of words ≡ Some r → status ≤ 6 → status ≢ 2
+    → (IsWhole status → IfSome old.left (λ bytes. Answers r bytes old.taken new.taken status)) → (IsWhole status → IfSome old.left (λ bytes. new.left ≡ Some (drop most_read bytes)))
     → (status ≡ 3 → HasRisen old.reads_failed new.reads_failed) → (status ≡ 3 → new.taken ≡ old.taken) → (status ≡ 4 → HasRisen old.writes_failed new.writes_failed)
     → (status ≡ 4 → IfSome old.left (λ bytes. AnswersInPart r bytes old.taken new.taken)) → (status ≡ 5 → new.taken ≡ old.taken) → Conduct words old new status
 carried words r old new status some known other answer read read_fault read_nothing write_fault write_part memory = record {

@@ -1,15 +1,39 @@
 -- What a deck that isn't refused by what is asked of it meets.
-use Rattle.std.proofs.Common.{◌≡◌, Bool, true, false, if◌then◌else◌, Option, Some, None, refl}
+use Rattle.std.proofs.Common.{◌≡◌, ℕ, ℤ, Bool, true, false, if◌then◌else◌, List, Option, Some, None, IfSome, refl, subst, inl, inr, arith}
 use Rattle.std.specs.Bool.{IsTrue}
+use Rattle.std.specs.List.{All}
+use Rattle.std.specs.Option.{ForSome, option_or}
+use Rattle.ch_affine.specs.Affine.{IsAtMost}
+use Rattle.ch_check.specs.Sessions.{fits_all}
 use Rattle.ch_deck.specs.Parts.{DeckParts}
-use Rattle.ch_lex.specs.declared.error.Code2.{Code2}
-use Rattle.ch_lex.specs.declared.error.Code2.TheVariants.{R2}
-use Rattle.ch_run.specs.Answers.{unknown_command}
+use Rattle.ch_lex.specs.declared.error.Code2.TheVariants.{D11, R2}
+use Rattle.ch_run.specs.Answers.{unfit_values, unknown_command}
+use Rattle.ch_run.specs.Conduct.{IsWhole}
 use Rattle.ch_subject.specs.Subjects.{can_judge}
+use Rattle.ch_words.specs.Numbers.{largest_value}
 
 one : (c : Bool) → (if c then None else Some R2) ≡ None → IsTrue c
 one true h = refl
 one false h = absurd cc
 
+both : (c f : Bool) → option_or (if c then None else Some R2) (if f then None else Some D11) ≡ None → IsTrue c × IsTrue f
+both true true h = (refl, refl)
+both true false h = absurd cc
+both false f h = absurd cc
+
 pub known_commands : (deck : DeckParts) → unknown_command deck ≡ None → IsTrue (can_judge deck)
 known_commands deck h = one (can_judge deck) h
+
+pub fit : (at : Option (List ℤ)) (deck : DeckParts) → option_or (unknown_command deck) (unfit_values at deck) ≡ None
+    → IsTrue (can_judge deck) × IsTrue (fits_all at deck)
+fit at deck h = both (can_judge deck) (fits_all at deck) h
+
+-- small values, as the checks want them
+pub for_small : (at : Option (List ℤ)) → IfSome at (All (IsAtMost largest_value)) → ForSome at (All (IsAtMost largest_value))
+for_small None h x e = absurd cc
+for_small (Some v) h x e = let q : v ≡ x = cc in subst (All (IsAtMost largest_value)) q h
+
+-- the status of a check is 0 or 6
+pub is_whole : (t : Bool) (status : ℕ) → status ≡ (if t then 6 else 0) → IsWhole status
+is_whole true status e = inr e
+is_whole false status e = inl (omega (arith, e))

@@ -3,5 +3,4 @@ pub mod Conducts
 pub mod Fit
 pub mod Lines
 pub mod Outs
-pub mod Pieces
-pub mod Shown
+pub mod Weighted

@@ -1,28 +1,37 @@
 -- What the program may answer to an input: a status and a text.
-use Rattle.std.specs.Prelude.{◌≡◌, ℕ, if◌then◌else◌, List, [], Option, Some, None, Result, Ok, Err}
+use Rattle.std.specs.Prelude.{◌≡◌, ℕ, ℤ, if◌then◌else◌, List, [], Option, Some, None, Result, Ok, Err}
+use Rattle.std.specs.Option.{option_or}
 use Rattle.std.specs.Io.KnownBytes.{Appends}
+use Rattle.ch_check.specs.Checked.{check_status, check_text}
+use Rattle.ch_check.specs.Sessions.{fits_all}
+use Rattle.ch_check.specs.Shown.{ShowsAll}
 use Rattle.ch_deck.specs.Decks.{deck_of}
 use Rattle.ch_deck.specs.Parts.{DeckParts}
 use Rattle.ch_deck.specs.declared.refusal.Refused.{Refused}
 use Rattle.ch_deck.specs.Refusals.{refusal_line}
 use Rattle.ch_io.specs.Streams.{AppendsPart}
 use Rattle.ch_lex.specs.declared.error.Code2.{Code2}
-use Rattle.ch_lex.specs.declared.error.Code2.TheVariants.{R2}
+use Rattle.ch_lex.specs.declared.error.Code2.TheVariants.{D11, R2}
 use Rattle.ch_run.specs.EvalText.{eval_text}
-use Rattle.ch_run.specs.ShowText.{ShowsAll}
 use Rattle.ch_search.specs.Searched.{IsSearchText}
 use Rattle.ch_subject.specs.Subjects.{can_judge}
 use Rattle.ch_words.specs.declared.request.Request.{Request}
-use Rattle.ch_words.specs.declared.request.Request.TheVariants.{Eval, Show, Search}
+use Rattle.ch_words.specs.declared.request.Request.TheVariants.{Eval, Check, Show, Search}
 use Rattle.ch_workload.specs.declared.error.DeckCode.TheVariants.{Plain}
 
--- Copies into buffers aren't made yet: where the recipe of a session has one, a command that applies recipes refuses the deck by the code of a
--- command that isn't known.
+-- Copies into buffers aren't made yet: where the recipe of a session has one, the commands that apply recipes refuse the deck by the code of
+-- a command that isn't known.
 abbrev pub unknown_command : DeckParts → Option Code2
 unknown_command deck = if can_judge deck then None else Some R2
 
+-- each session must have as many parameters as values are given
+abbrev pub unfit_values : Option (List ℤ) → DeckParts → Option Code2
+unfit_values at deck = if fits_all at deck then None else Some D11
+
 -- why an accepted deck is refused by what is asked of it
 abbrev pub unfit : Request → DeckParts → Option Code2
+unfit (Check at) deck = option_or (unknown_command deck) (unfit_values at deck)
+unfit (Show at) deck = option_or (unknown_command deck) (unfit_values at deck)
 unfit Search deck = unknown_command deck
 unfit other deck = None
 
@@ -34,16 +43,17 @@ refused_whole code = record { code = Plain code; spot = None; detail = [] }
 abbrev pub IsRefused : Refused → ℕ → List ℕ → Type 0
 IsRefused refusal status text = (status ≡ 1) × (text ≡ refusal_line refusal)
 
--- what is told of a deck: `eval` and `show` look at its programs alone
-abbrev pub IsTold : Request → DeckParts → List ℕ → Type 0
-IsTold (Eval sums) deck text = text ≡ eval_text deck.programs
-IsTold (Show at) deck text = ShowsAll deck.programs text
-IsTold Search deck text = IsSearchText deck text
-IsTold other deck text = ⊥
+-- what is told of a deck
+abbrev pub IsTold : Request → DeckParts → ℕ → List ℕ → Type 0
+IsTold (Eval sums) deck status text = (status ≡ 0) × (text ≡ eval_text sums deck.programs)
+IsTold (Check at) deck status text = (status ≡ check_status deck at) × (text ≡ check_text deck at)
+IsTold (Show at) deck status text = (status ≡ check_status deck at) × ShowsAll deck at text
+IsTold Search deck status text = (status ≡ 0) × IsSearchText deck text
+IsTold other deck status text = ⊥
 
 abbrev pub IsToldUnless : Option Code2 → Request → DeckParts → ℕ → List ℕ → Type 0
 IsToldUnless (Some code) r deck status text = IsRefused (refused_whole code) status text
-IsToldUnless None r deck status text = (status ≡ 0) × IsTold r deck text
+IsToldUnless None r deck status text = IsTold r deck status text
 
 -- the status and the text of an accepted deck, or of the first refusal
 abbrev pub IsAnswer : Request → Result DeckParts Refused → ℕ → List ℕ → Type 0

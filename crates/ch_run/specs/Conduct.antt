@@ -20,13 +20,17 @@ abbrev pub standing : Option (List ℕ) → ℕ → Option (List ℕ) → ℕ �
 standing left reads_failed taken writes_failed =
     record { left = left; reads_failed = reads_failed; taken = taken; writes_failed = writes_failed }
 
+-- the statuses at which a text was written whole
+abbrev pub IsWhole : ℕ → Type 0
+IsWhole status = (status ≤ 1) ⊎ (status ≡ 6)
+
 -- what a run with these words does between two times
 pub record Conduct (words : List (List ℕ)) (old new : Standing) (status : ℕ) : Type 0 where
-  pub known : status ≤ 5
-  -- what was written at 0 and 1, and which of the two it is
-  pub answer : status ≤ 1 → IfSome (asked_of words) (λ r. IfSome old.left (λ bytes. Answers r bytes old.taken new.taken status))
+  pub known : status ≤ 6
+  -- what was written at 0, 1 and 6, and which of them it is
+  pub answer : IsWhole status → IfSome (asked_of words) (λ r. IfSome old.left (λ bytes. Answers r bytes old.taken new.taken status))
   -- all of the input was read, but what is past the limit by more than a byte
-  pub read : status ≤ 1 → IfSome old.left (λ bytes. new.left ≡ Some (drop most_read bytes))
+  pub read : IsWhole status → IfSome old.left (λ bytes. new.left ≡ Some (drop most_read bytes))
   -- the usage line comes exactly for words that ask for nothing, where there is memory to read them
   pub usage_line : status ≡ 2 → Appends old.taken new.taken usage
   pub other_words : status ≡ 2 → asked_of words ≡ None

@@ -1,13 +1,14 @@
 //! What is answered to an input.
-ghost use Rattle.std.specs.Prelude.{◌≡◌, ◌≤◌, IfOk, None, Ok, Some};
+ghost use Rattle.std.specs.Prelude.{◌≡◌, IfOk, None, Ok, Some};
 ghost use Rattle.ch_deck.specs.Decks.{deck_of};
-ghost use Rattle.ch_run.specs.Answers.{IsAnswer, IsRefused, IsTold, refused_whole};
-ghost use Rattle.ch_run.specs.Answers.{unfit, unknown_command};
+ghost use Rattle.ch_run.specs.Answers.{IsAnswer, IsRefused, IsTold, refused_whole, unfit, unfit_values, unknown_command};
+ghost use Rattle.ch_run.specs.Conduct.{IsWhole};
 ghost use Rattle.ch_run.specs.Requests.{answered};
+ghost use Rattle.ch_words.specs.Requests.{HasSmallValues};
 
 use crate::eval::eval_text;
-use crate::show::show_text;
-use ch_affine::Text;
+use ch_affine::{List, Text};
+use ch_check::{Answer, check, fits_all, show};
 use ch_deck::{Deck, DeckError, Refused, read_deck};
 use ch_lex::Code2;
 use ch_search::answer as search;
@@ -15,13 +16,6 @@ use ch_subject::can_judge;
 use ch_words::Request;
 use ch_workload::DeckCode;
 use std::alloc::{AllocError, Global};
-
-/// A status, and the text to write.
-#[derive(Debug, Drop)]
-pub(crate) struct Answer {
-    pub status: u8,
-    pub text: Text,
-}
 
 fn unknown_command(deck: &Deck) -> Option<Code2>
     ensures { result ≡ unknown_command deck.now }
@@ -33,11 +27,24 @@ fn unknown_command(deck: &Deck) -> Option<Code2>
     }
 }
 
+fn unfit_values(at: &Option<List<i64>>, deck: &Deck) -> Option<Code2>
+    ensures { result ≡ unfit_values at.now deck.now }
+{
+    if fits_all(at, deck) {
+        None
+    } else {
+        Some(Code2::D11)
+    }
+}
+
 /// Why an accepted deck is refused by what is asked of it.
 fn unfit(request: &Request, deck: &Deck) -> Option<Code2>
     ensures { result ≡ unfit request.now deck.now }
 {
     match request {
+        Request::Check { at } | Request::Show { at } => {
+            unknown_command(deck).or(unfit_values(at, deck))
+        }
         Request::Search => unknown_command(deck),
         _ => None,
     }
@@ -64,16 +71,25 @@ fn refused_whole(alloc: Global, code: Code2) -> Refused
 }
 
 /// What is told of a deck that isn't refused by what is asked of it.
-#[tactic(auto, using(crate::proofs::Fit::known_commands))]
-fn told(alloc: Global, request: &Request, deck: &Deck) -> Result<Text, AllocError>
+#[tactic(auto, using(crate::proofs::Fit::fit, crate::proofs::Fit::for_small, crate::proofs::Fit::known_commands, crate::proofs::Fit::is_whole))]
+fn told(alloc: Global, request: &Request, deck: &Deck) -> Result<Answer, AllocError>
     requires fit { unfit request.now deck.now ≡ None }
     requires asked { answered request.now ≡ Some request.now }
-    ensures { IfOk result (λ text. IsTold request.now deck.now text) }
+    requires small { HasSmallValues request.now }
+    ensures told { IfOk result (λ a. IsTold request.now deck.now a.status a.text) }
+    ensures status { IfOk result (λ a. IsWhole a.status) }
 {
     match request {
-        Request::Eval { .. } => eval_text(alloc, deck.programs()),
-        Request::Show { .. } => show_text(alloc, deck.programs()),
-        Request::Search => search(alloc, deck),
+        Request::Eval { sums } => {
+            let text = eval_text(alloc, *sums, deck.programs())?;
+            Ok(Answer { status: 0, text })
+        }
+        Request::Check { at } => check(alloc, deck, at),
+        Request::Show { at } => show(alloc, deck, at),
+        Request::Search => {
+            let text = search(alloc, deck)?;
+            Ok(Answer { status: 0, text })
+        }
         _ => unreachable!(),
     }
 }
@@ -81,15 +97,13 @@ fn told(alloc: Global, request: &Request, deck: &Deck) -> Result<Text, AllocErro
 /// What is answered to an accepted deck.
 fn answer_of(alloc: Global, request: &Request, deck: &Deck) -> Result<Answer, AllocError>
     requires asked { answered request.now ≡ Some request.now }
+    requires small { HasSmallValues request.now }
     ensures told { IfOk result (λ a. IsAnswer request.now (Ok deck.now) a.status a.text) }
-    ensures status { IfOk result (λ a. a.status ≤ 1) }
+    ensures status { IfOk result (λ a. IsWhole a.status) }
 {
     match unfit(request, deck) {
         Some(code) => refused(alloc, &refused_whole(alloc, code)),
-        None => {
-            let text = told(alloc, request, deck)?;
-            Ok(Answer { status: 0, text })
-        }
+        None => told(alloc, request, deck),
     }
 }
 
@@ -100,8 +114,9 @@ pub(crate) fn answer_to(
     bytes: &[u8],
 ) -> Result<Answer, AllocError>
     requires asked { answered request.now ≡ Some request.now }
+    requires small { HasSmallValues request.now }
     ensures told { IfOk result (λ a. IsAnswer request.now (deck_of bytes.now) a.status a.text) }
-    ensures status { IfOk result (λ a. a.status ≤ 1) }
+    ensures status { IfOk result (λ a. IsWhole a.status) }
 {
     match read_deck(alloc, bytes) {
         Err(DeckError::Memory) => Err(AllocError),

@@ -25,36 +25,46 @@ fn cells_after(alloc: Global, program: &Program) -> Result<List<i64>, AllocError
 
 /// Adds a program's name and its arrays.
 #[tactic(auto, unfolding(crate::specs::EvalText::program_text))]
-fn put_program(alloc: Global, out: &mut Text, program: &Program) -> Result<(), AllocError>
+fn put_program(
+    alloc: Global,
+    out: &mut Text,
+    sums: bool,
+    program: &Program,
+) -> Result<(), AllocError>
     requires { IsProgram program.now }
-    ensures { OnOk result (out.new ≡ out.old ++ program_text program.now) }
+    ensures { OnOk result (out.new ≡ out.old ++ program_text sums program.now) }
 {
     let cells = cells_after(alloc, program)?;
     out.append(b"program ")?;
     out.append(program.name.as_bytes())?;
     out.append(b"\n")?;
     program.nest.known();
-    put_arrays(out, program.nest.arrays.as_slice(), cells.as_slice())
+    put_arrays(out, sums, program.nest.arrays.as_slice(), cells.as_slice())
 }
 
-fn put_programs(alloc: Global, out: &mut Text, programs: &[Program]) -> Result<(), AllocError>
+fn put_programs(
+    alloc: Global,
+    out: &mut Text,
+    sums: bool,
+    programs: &[Program],
+) -> Result<(), AllocError>
     requires { All IsProgram programs.now }
-    ensures { OnOk result (out.new ≡ out.old ++ flat_map program_text programs.now) }
+    ensures { OnOk result (out.new ≡ out.old ++ flat_map (program_text sums) programs.now) }
 {
     for program in programs {
-        put_program(alloc, out, program)?;
+        put_program(alloc, out, sums, program)?;
     }
     Ok(())
 }
 
-/// The text of `eval`.
+/// The text of `eval`: all elements of arrays, or their sums alone.
 #[tactic(auto, unfolding(crate::specs::EvalText::eval_text))]
-pub(crate) fn eval_text(alloc: Global, programs: &[Program]) -> Result<Text, AllocError>
+pub(crate) fn eval_text(alloc: Global, sums: bool, programs: &[Program]) -> Result<Text, AllocError>
     requires { All IsProgram programs.now }
-    ensures { IfOk result (λ text. text ≡ eval_text programs.now) }
+    ensures { IfOk result (λ text. text ≡ eval_text sums programs.now) }
 {
     let mut out = Text::new(alloc);
-    put_programs(alloc, &mut out, programs)?;
+    put_programs(alloc, &mut out, sums, programs)?;
     out.append(b"end\n")?;
     Ok(out)
 }

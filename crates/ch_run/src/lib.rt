@@ -4,9 +4,7 @@
 mod answers;
 mod eval;
 mod run;
-mod show;
-#[cfg(test)]
-mod tests;
+mod sums;
 mod text;
 mod words;
 

@@ -4,8 +4,9 @@ ghost use Rattle.std.specs.Io.KnownBytes.{Appends};
 ghost use Rattle.ch_io.specs.Faults.{HasRisen};
 ghost use Rattle.ch_io.specs.Streams.{AppendsPart};
 ghost use Rattle.ch_run.specs.Answers.{Answers, AnswersInPart, most_read};
-ghost use Rattle.ch_run.specs.Conduct.{Conduct, standing};
+ghost use Rattle.ch_run.specs.Conduct.{Conduct, IsWhole, standing};
 ghost use Rattle.ch_run.specs.Requests.{answered, asked_of};
+ghost use Rattle.ch_words.specs.Requests.{HasSmallValues};
 ghost use Rattle.ch_words.specs.Usage.{usage};
 
 use crate::answers::answer_to;
@@ -42,11 +43,12 @@ fn carried_out<S: Source, K: Sink>(
     sink: &mut K,
 ) -> u8
     requires asked { answered request.now ≡ Some request.now }
-    ensures known { result ≤ 5 }
+    requires small { HasSmallValues request.now }
+    ensures known { result ≤ 6 }
     ensures words { result ≢ 2 }
-    ensures answer { result ≤ 1 → IfSome (S.left source.old) (λ bytes.
+    ensures answer { IsWhole result → IfSome (S.left source.old) (λ bytes.
         Answers request.now bytes (K.taken sink.old) (K.taken sink.new) result) }
-    ensures read { result ≤ 1 → IfSome (S.left source.old) (λ bytes.
+    ensures read { IsWhole result → IfSome (S.left source.old) (λ bytes.
         S.left source.new ≡ Some (drop most_read bytes)) }
     ensures read_fault { result ≡ 3 → HasRisen (S.faults source.old) (S.faults source.new) }
     ensures read_nothing { result ≡ 3 → K.taken sink.new ≡ K.taken sink.old }
@@ -68,11 +70,11 @@ fn carried_out<S: Source, K: Sink>(
     }
 }
 
-/// Runs every command but `run`: reads the input, writes the text and answers a status. It waits
+/// Runs every command that is answered without threads: reads the input, writes the text and answers a status. It waits
 /// for nobody.
 ///
-/// `words` are those after the program's name. The status is 0 where the text was written, 1 where
-/// the refusal of the input was, 2 where the words ask for nothing that is answered (the usage
+/// `words` are those after the program's name. The status is 0 where the text was written (6 where
+/// it tells of a refused recipe), 1 where the refusal of the input was, 2 where the words ask for nothing that is answered (the usage
 /// line was written, and nothing was read), 3 where a read failed, 4 where a write failed, and 5 where there
 /// was not enough memory.
 #[tactic(auto, using(crate::proofs::Conducts::told_usage, crate::proofs::Conducts::without_memory, crate::proofs::Conducts::carried))]

@@ -1,8 +1,9 @@
-ghost use Rattle.std.specs.Prelude.{◌≡◌, ◌++◌, pos, map, take, drop, IsTrue, OnOk};
+ghost use Rattle.std.specs.Prelude.{◌≡◌, ◌≤◌, ◌++◌, ◌^◌, length, take, drop, IsTrue, OnOk};
 ghost use Rattle.std.specs.List.{flat_map};
 ghost use Rattle.ch_nest.specs.Shape.{arrays_fit};
-ghost use Rattle.ch_run.specs.EvalText.{array_line, array_lines, element_text, extent_text};
+ghost use Rattle.ch_run.specs.EvalText.{array_line, array_lines, cells_text, element_text, extent_text};
 
+use crate::sums::sum_of;
 use ch_affine::Text;
 use ch_nest::{ArrayDecl, cells_in};
 use ch_print::{put_integer, put_number};
@@ -41,25 +42,29 @@ fn put_elements(out: &mut Text, cells: &[i64]) -> Result<(), AllocError>
     Ok(())
 }
 
-/// Adds the static places of a piece, each after a space.
-pub(crate) fn put_places(out: &mut Text, places: &[u32]) -> Result<(), AllocError>
-    ensures { OnOk result (out.new ≡ out.old ++ flat_map element_text (map pos places.now)) }
+/// Adds an array's elements, or their sum alone.
+fn put_cells(out: &mut Text, sums: bool, cells: &[i64]) -> Result<(), AllocError>
+    requires { length cells.now ≤ 2 ^ 40 }
+    ensures { OnOk result (out.new ≡ out.old ++ cells_text sums cells.now) }
 {
-    for p in places {
-        put_element(out, i64::from(*p))?;
+    if sums {
+        out.append(b" sum ")?;
+        put_integer(out, sum_of(cells))
+    } else {
+        out.append(b":")?;
+        put_elements(out, cells)
     }
-    Ok(())
 }
 
-/// Adds an array's name, extents and elements, in a line.
+/// Adds an array's name, its extents, and its elements or their sum, in a line.
 #[tactic(auto, unfolding(crate::specs::EvalText::array_line))]
-fn put_array(out: &mut Text, array: &ArrayDecl, cells: &[i64]) -> Result<(), AllocError>
-    ensures { OnOk result (out.new ≡ out.old ++ array_line array.now cells.now) }
+fn put_array(out: &mut Text, sums: bool, array: &ArrayDecl, cells: &[i64]) -> Result<(), AllocError>
+    requires { length cells.now ≤ 2 ^ 40 }
+    ensures { OnOk result (out.new ≡ out.old ++ array_line sums array.now cells.now) }
 {
     out.append(array.name.as_bytes())?;
     put_extents(out, array.extents.as_slice())?;
-    out.append(b":")?;
-    put_elements(out, cells)?;
+    put_cells(out, sums, cells)?;
     out.append(b"\n")
 }
 
@@ -75,16 +80,17 @@ fn parted(cells: &[i64], count: usize) -> (&[i64], &[i64])
 #[tactic(auto, using(crate::proofs::Lines::lines_more))]
 pub(crate) fn put_arrays(
     out: &mut Text,
+    sums: bool,
     arrays: &[ArrayDecl],
     cells: &[i64],
 ) -> Result<(), AllocError>
     requires { IsTrue (arrays_fit arrays.now) }
-    ensures { OnOk result (out.new ≡ out.old ++ array_lines arrays.now cells.now) }
+    ensures { OnOk result (out.new ≡ out.old ++ array_lines sums arrays.now cells.now) }
 {
     let mut rest = cells;
     for array in arrays {
         let (own, others) = parted(rest, cells_in(array.extents.as_slice()));
-        put_array(out, array, own)?;
+        put_array(out, sums, array, own)?;
         rest = others;
     }
     Ok(())
