@@ -3,3 +3,4 @@ pub mod Digits
 pub mod Parts
 pub mod Rows
 pub mod Written
+pub mod Small

@@ -1,13 +1,15 @@
 -- What the words of the command line ask for.
-use Rattle.std.specs.Prelude.{ℕ, Bool, if◌then◌else◌, List, [], ◌∷◌, Option, Some, None, option_map, option_and_then, is_some, codes}
-use Rattle.std.specs.List.{list_any}
+use Rattle.std.specs.Prelude.{ℕ, Bool, true, false, if◌then◌else◌, List, [], ◌∷◌, Option, Some, None, IfSome, option_map, option_and_then, is_some, codes}
+use Rattle.std.specs.List.{All, list_any}
 use Rattle.clap.specs.Words.{Row, Text, first_of, fault_of, matches_of}
 use Rattle.clap.specs.Kinds.{Kinds}
 use Rattle.ch_words.specs.declared.options.CommandName.{CommandName}
 use Rattle.ch_words.specs.declared.options.CommandName.TheVariants as names
 use Rattle.ch_words.specs.declared.request.Request.{Request}
 use Rattle.ch_words.specs.declared.request.Request.TheVariants.{Eval, Check, Show, Search, Run, Replay, Demo}
+use Rattle.ch_affine.specs.Affine.{IsAtMost}
 use Rattle.ch_words.specs.CommandLine.{stated}
+use Rattle.ch_words.specs.Numbers.{largest_value}
 use Rattle.ch_words.specs.Options.{Values, command_named, values_in, unused_by, place_of, builders_of, sums_of, deck_number_of}
 
 abbrev pub run_by : Values → Option Request
@@ -39,3 +41,14 @@ unless_faulty (kind ∷ kinds) request = None
 -- option isn't the name of a command, an option is there that the command doesn't use, or a value isn't such as it takes.
 abbrev pub request_of : List Text → Option Request
 request_of words = unless_faulty (fault_of stated words) (request_in (matches_of stated words))
+
+-- the values of a point, where they are given, are of a magnitude that is read
+abbrev pub HasSmallValues : Request → Type 0
+HasSmallValues (Check at) = IfSome at (All (IsAtMost largest_value))
+HasSmallValues (Show at) = IfSome at (All (IsAtMost largest_value))
+HasSmallValues other = Unit {0}
+
+-- whether what is asked for is about the input: `demo` makes its deck from a number
+abbrev pub reads_input : Request → Bool
+reads_input (Demo number) = false
+reads_input other = true
