@@ -4,3 +4,4 @@ mod Made
 mod Sizes
 mod Tiles
 mod Unrolled
+mod Unique

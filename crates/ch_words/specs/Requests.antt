@@ -1,5 +1,5 @@
 -- What the words of the command line ask for.
-use Rattle.std.specs.Prelude.{ℕ, Bool, if◌then◌else◌, List, [], ◌∷◌, Option, Some, None, IfSome, option_map, option_and_then, is_some, codes}
+use Rattle.std.specs.Prelude.{ℕ, Bool, true, false, if◌then◌else◌, List, [], ◌∷◌, Option, Some, None, IfSome, option_map, option_and_then, is_some, codes}
 use Rattle.std.specs.List.{All, list_any}
 use Rattle.clap.specs.Words.{Row, Text, first_of, fault_of, matches_of}
 use Rattle.clap.specs.Kinds.{Kinds}
@@ -47,3 +47,8 @@ abbrev pub HasSmallValues : Request → Type 0
 HasSmallValues (Check at) = IfSome at (All (IsAtMost largest_value))
 HasSmallValues (Show at) = IfSome at (All (IsAtMost largest_value))
 HasSmallValues other = Unit {0}
+
+-- whether what is asked for is about the input: `demo` makes its deck from a number
+abbrev pub reads_input : Request → Bool
+reads_input (Demo number) = false
+reads_input other = true

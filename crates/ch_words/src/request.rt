@@ -1,7 +1,7 @@
 ghost use Rattle.std.specs.Prelude.{◌≡◌, IfOk, map, string_bytes};
 ghost use Rattle.clap.specs.Words.{found_of, rows_of};
 ghost use Rattle.ch_words.specs.Options.{written};
-ghost use Rattle.ch_words.specs.Requests.{request_of, request_in, request_by, run_by};
+ghost use Rattle.ch_words.specs.Requests.{reads_input, request_of, request_in, request_by, run_by};
 
 use crate::command_line::{command_line, matched};
 use crate::options::{CommandName, Options, command_named, options_in};
@@ -28,6 +28,15 @@ pub enum Request {
     Replay,
     /// Search the generated deck with this number.
     Demo { number: u32 },
+}
+
+impl Request {
+    /// Whether the request is about the input: `demo` makes its deck from a number.
+    pub fn reads_input(&self) -> bool
+        ensures { result ≡ reads_input self.now }
+    {
+        !matches!(self, Request::Demo { .. })
+    }
 }
 
 /// What `run` is asked to do.

@@ -15,7 +15,7 @@ returns-in-Ok-clause-text c =
     let m = c.subject_of-subject.result.machine.now in
     let v = c.as_slice-numbers.result.now in
     let here : IsCase deck at machine s n r m v = case_of deck at machine s n r m v c.in_ok-values.values c.subject_of-subject.ensures.nest c.subject_of-subject.ensures.recipe
-        c.subject_of-subject.ensures.machine c.as_slice-numbers.ensures c.in_ok-values.ensures.exact in
+    c.subject_of-subject.ensures.machine c.as_slice-numbers.ensures c.in_ok-values.ensures.exact in
     let made = c.in-Ok.made in
     let told = legal_told n r m v made.space made.told c.in-Ok.ensures.program c.in-Ok.ensures.told in
     let line : c.put_legal.new.out ≡ c.args.out.now ++ line_text s.name v n.arrays (Ok made.told) = search rules in
@@ -34,7 +34,7 @@ returns-in-Err-Refused-clause-text c =
     let m = c.subject_of-subject.result.machine.now in
     let v = c.as_slice-numbers.result.now in
     let here : IsCase deck at machine s n r m v = case_of deck at machine s n r m v c.in_ok-values.values c.subject_of-subject.ensures.nest c.subject_of-subject.ensures.recipe
-        c.subject_of-subject.ensures.machine c.as_slice-numbers.ensures c.in_ok-values.ensures.exact in
+    c.subject_of-subject.ensures.machine c.as_slice-numbers.ensures c.in_ok-values.ensures.exact in
     let refused = c.in-Err-Refused.refusal in
     let is = rw c.in-Err-Refused.field-0-is at c.in-Err-Refused.ensures.refusal in
     let line : c.put_refused.new.out ≡ c.args.out.now ++ line_text s.name v n.arrays (Err refused) = search rules in
