@@ -1,7 +1,0 @@
-mod Decks
-mod Forms
-mod Made
-mod Sizes
-mod Tiles
-mod Unrolled
-mod Unique

@@ -1,3 +1,0 @@
-pub mod Product
-pub mod Generated
-pub mod Summaries

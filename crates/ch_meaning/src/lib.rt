@@ -1,2 +1,0 @@
-//! What a deck means to those who tune it.
-#![tactic(auto)]

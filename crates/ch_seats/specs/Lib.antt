@@ -1,3 +1,0 @@
-pub mod Benches
-pub mod Seated
-pub mod Walk
