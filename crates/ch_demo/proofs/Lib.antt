@@ -1,0 +1,7 @@
+mod Decks
+mod Forms
+mod Made
+mod Sizes
+mod Tiles
+mod Unrolled
+mod Unique

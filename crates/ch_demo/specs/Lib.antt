@@ -1,0 +1,3 @@
+pub mod Product
+pub mod Generated
+pub mod Summaries
