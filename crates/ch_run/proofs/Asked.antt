@@ -14,7 +14,7 @@ same (Show at) r h = cc
 same Search r h = cc
 same (Run builders sums) r h = absurd cc
 same Replay r h = absurd cc
-same (Demo number) r h = absurd cc
+same (Demo number) r h = cc
 
 -- a request that was found, of those that are answered
 once : (found : Option Request) (r : Request) → option_and_then answered found ≡ Some r → (found ≡ Some r) × (answered r ≡ Some r)

@@ -3,7 +3,7 @@ use Rattle.std.proofs.Common.{◌≡◌, ◌≢◌, ◌≤◌, ◌⊎◌, ℕ, L
 use Rattle.std.specs.Io.KnownBytes.{Appends}
 use Rattle.ch_io.specs.Faults.{HasRisen}
 use Rattle.ch_io.specs.Streams.{AppendsPart}
-use Rattle.ch_run.specs.Answers.{Answers, AnswersInPart, most_read}
+use Rattle.ch_run.specs.Answers.{Answers, AnswersInPart, input_of, read_by}
 use Rattle.ch_run.specs.Requests.{asked_of}
 use Rattle.ch_words.specs.Usage.{usage}
 use Rattle.ch_run.specs.Conduct.{Conduct, IsWhole, Standing}
@@ -77,13 +77,14 @@ some_none c o s n = cc
 
 -- a request that was carried out
 pub carried : (words : List (List ℕ)) (r : Request) (old new : Standing) (status : ℕ) → asked_of words ≡ Some r → status ≤ 6 → status ≢ 2
-    → (IsWhole status → IfSome old.left (λ bytes. Answers r bytes old.taken new.taken status)) → (IsWhole status → IfSome old.left (λ bytes. new.left ≡ Some (drop most_read bytes)))
+    → (IsWhole status → IfSome (input_of r old.left) (λ bytes. Answers r bytes old.taken new.taken status))
+    → (IsWhole status → IfSome old.left (λ bytes. new.left ≡ Some (drop (read_by r) bytes)))
     → (status ≡ 3 → HasRisen old.reads_failed new.reads_failed) → (status ≡ 3 → new.taken ≡ old.taken) → (status ≡ 4 → HasRisen old.writes_failed new.writes_failed)
-    → (status ≡ 4 → IfSome old.left (λ bytes. AnswersInPart r bytes old.taken new.taken)) → (status ≡ 5 → new.taken ≡ old.taken) → Conduct words old new status
+    → (status ≡ 4 → IfSome (input_of r old.left) (λ bytes. AnswersInPart r bytes old.taken new.taken)) → (status ≡ 5 → new.taken ≡ old.taken) → Conduct words old new status
 carried words r old new status some known other answer read read_fault read_nothing write_fault write_part memory = record {
   known = known;
   answer = λ l. rw some (answer l);
-  read = read;
+  read = λ l. rw some (read l);
   usage_line = λ h. absurd (other h);
   other_words = λ h. absurd (other h);
   usable_words = λ none. absurd (some_none r (asked_of words) some none);

@@ -5,6 +5,7 @@ use Rattle.std.specs.Io.KnownBytes.{Appends}
 use Rattle.ch_check.specs.Checked.{check_status, check_text}
 use Rattle.ch_check.specs.Sessions.{fits_all}
 use Rattle.ch_check.specs.Shown.{ShowsAll}
+use Rattle.ch_demo.specs.Summaries.{IsDemoText}
 use Rattle.ch_deck.specs.Decks.{deck_of}
 use Rattle.ch_deck.specs.Parts.{DeckParts}
 use Rattle.ch_deck.specs.declared.refusal.Refused.{Refused}
@@ -15,8 +16,9 @@ use Rattle.ch_lex.specs.declared.error.Code2.TheVariants.{D11, R2}
 use Rattle.ch_run.specs.EvalText.{eval_text}
 use Rattle.ch_search.specs.Searched.{IsSearchText}
 use Rattle.ch_subject.specs.Subjects.{can_judge}
+use Rattle.ch_words.specs.Requests.{reads_input}
 use Rattle.ch_words.specs.declared.request.Request.{Request}
-use Rattle.ch_words.specs.declared.request.Request.TheVariants.{Eval, Check, Show, Search}
+use Rattle.ch_words.specs.declared.request.Request.TheVariants.{Eval, Check, Show, Search, Run, Replay, Demo}
 use Rattle.ch_workload.specs.declared.error.DeckCode.TheVariants.{Plain}
 
 -- Copies into buffers aren't made yet: where the recipe of a session has one, the commands that apply recipes refuse the deck by the code of
@@ -60,19 +62,32 @@ abbrev pub IsAnswer : Request → Result DeckParts Refused → ℕ → List ℕ 
 IsAnswer r (Ok deck) status text = IsToldUnless (unfit r deck) r deck status text
 IsAnswer r (Err refusal) status text = IsRefused refusal status text
 
+-- the status and the text of a request: `demo` tells of its number, every other command of the input
+abbrev pub AnswersRequest : Request → List ℕ → ℕ → List ℕ → Type 0
+AnswersRequest (Demo number) bytes status text = (status ≡ 0) × IsDemoText number text
+AnswersRequest r bytes status text = IsAnswer r (deck_of bytes) status text
+
 -- one byte more than an input may have is read, which tells one that is too long
 abbrev pub most_read : ℕ
 most_read = 1048577
 
+-- how many bytes are read of an input at most: none by `demo`
+abbrev pub read_by : Request → ℕ
+read_by r = if reads_input r then most_read else 0
+
+-- what a request is answered to: the bytes that are left to read, where they are told, or no bytes
+abbrev pub input_of : Request → Option (List ℕ) → Option (List ℕ)
+input_of r left = if reads_input r then left else Some []
+
 -- the answer to these bytes was appended
 pub record Answers (r : Request) (bytes : List ℕ) (old new : Option (List ℕ)) (status : ℕ) : Type 0 where
   pub text : List ℕ
-  pub answers : IsAnswer r (deck_of bytes) status text
+  pub answers : AnswersRequest r bytes status text
   pub appended : Appends old new text
 
 -- a front of an answer to these bytes was appended, not all of it
 pub record AnswersInPart (r : Request) (bytes : List ℕ) (old new : Option (List ℕ)) : Type 0 where
   pub status : ℕ
   pub text : List ℕ
-  pub answers : IsAnswer r (deck_of bytes) status text
+  pub answers : AnswersRequest r bytes status text
   pub appended : AppendsPart old new text

@@ -1,10 +1,10 @@
 //! What is answered to an input.
-ghost use Rattle.std.specs.Prelude.{◌≡◌, IfOk, None, Ok, Some};
+ghost use Rattle.std.specs.Prelude.{◌≡◌, IfOk, None, Ok, Some, true};
 ghost use Rattle.ch_deck.specs.Decks.{deck_of};
 ghost use Rattle.ch_run.specs.Answers.{IsAnswer, IsRefused, IsTold, refused_whole, unfit, unfit_values, unknown_command};
 ghost use Rattle.ch_run.specs.Conduct.{IsWhole};
 ghost use Rattle.ch_run.specs.Requests.{answered};
-ghost use Rattle.ch_words.specs.Requests.{HasSmallValues};
+ghost use Rattle.ch_words.specs.Requests.{HasSmallValues, reads_input};
 
 use crate::eval::eval_text;
 use ch_affine::{List, Text};
@@ -75,6 +75,7 @@ fn refused_whole(alloc: Global, code: Code2) -> Refused
 fn told(alloc: Global, request: &Request, deck: &Deck) -> Result<Answer, AllocError>
     requires fit { unfit request.now deck.now ≡ None }
     requires asked { answered request.now ≡ Some request.now }
+    requires reads { reads_input request.now ≡ true }
     requires small { HasSmallValues request.now }
     ensures told { IfOk result (λ a. IsTold request.now deck.now a.status a.text) }
     ensures status { IfOk result (λ a. IsWhole a.status) }
@@ -97,6 +98,7 @@ fn told(alloc: Global, request: &Request, deck: &Deck) -> Result<Answer, AllocEr
 /// What is answered to an accepted deck.
 fn answer_of(alloc: Global, request: &Request, deck: &Deck) -> Result<Answer, AllocError>
     requires asked { answered request.now ≡ Some request.now }
+    requires reads { reads_input request.now ≡ true }
     requires small { HasSmallValues request.now }
     ensures told { IfOk result (λ a. IsAnswer request.now (Ok deck.now) a.status a.text) }
     ensures status { IfOk result (λ a. IsWhole a.status) }
@@ -114,6 +116,7 @@ pub(crate) fn answer_to(
     bytes: &[u8],
 ) -> Result<Answer, AllocError>
     requires asked { answered request.now ≡ Some request.now }
+    requires reads { reads_input request.now ≡ true }
     requires small { HasSmallValues request.now }
     ensures told { IfOk result (λ a. IsAnswer request.now (deck_of bytes.now) a.status a.text) }
     ensures status { IfOk result (λ a. IsWhole a.status) }

@@ -16,6 +16,7 @@ fn answered(request: Request) -> Option<Request>
         Request::Check { at } => Some(Request::Check { at }),
         Request::Show { at } => Some(Request::Show { at }),
         Request::Search => Some(Request::Search),
+        Request::Demo { number } => Some(Request::Demo { number }),
         _ => None,
     }
 }
