@@ -73,3 +73,6 @@ all_read q left new h f = rw h f
 pub none_read : (number : ℕ) (left new : Option (List ℕ)) → new ≡ left → IfSome left (λ bytes. new ≡ Some (drop (read_by (Demo number)) bytes))
 none_read number None new e = tt
 none_read number (Some all) new e = e
+
+pub not_both : (q : Request) → reads_input q ≡ true → reads_input q ≡ false → ⊥
+not_both q h f = cc

@@ -18,7 +18,7 @@ use Rattle.ch_search.specs.Searched.{IsSearchText}
 use Rattle.ch_subject.specs.Subjects.{can_judge}
 use Rattle.ch_words.specs.Requests.{reads_input}
 use Rattle.ch_words.specs.declared.request.Request.{Request}
-use Rattle.ch_words.specs.declared.request.Request.TheVariants.{Eval, Check, Show, Search, Run, Replay, Demo}
+use Rattle.ch_words.specs.declared.request.Request.TheVariants.{Eval, Check, Show, Search, Demo}
 use Rattle.ch_workload.specs.declared.error.DeckCode.TheVariants.{Plain}
 
 -- Copies into buffers aren't made yet: where the recipe of a session has one, the commands that apply recipes refuse the deck by the code of
