@@ -1,0 +1,9 @@
+pub mod Places
+pub mod Meaning
+pub mod Conduct
+pub mod Lines
+pub mod Fits
+pub mod Lived
+pub mod Solo
+pub mod Turns
+pub mod Gathered

@@ -1,0 +1,2 @@
+//! What a deck means to those who tune it.
+#![tactic(auto)]
