@@ -208,19 +208,22 @@ sum_ends true u = (refl, refl)
 sum_ends false u = (refl, refl)
 
 no_sum_mark : (r : List ℕ) (o : Bool) (u : List ℕ) → EndsSum r → r ≡ sum_mark o ++ u → ⊥
-no_sum_mark r true u h e = apart_by (leads 32) r _ (h.1) refl e
-no_sum_mark r false u h e = apart_by (leads 32) r _ (h.1) refl e
+no_sum_mark r true u h e = apart_by (leads 32) r (codes " + " ++ u) (h.1) refl e
+no_sum_mark r false u h e = apart_by (leads 32) r (codes " - " ++ u) (h.1) refl e
 
 no_product_mark : (r : List ℕ) (o : Unit {0}) (u : List ℕ) → EndsProduct r → r ≡ product_mark o ++ u → ⊥
-no_product_mark r o u h e = apart_by (leads_with 32 42) r _ (h.1) refl e
+no_product_mark r o u h e = apart_by (leads_with 32 42) r (codes " * " ++ u) (h.1) refl e
 
 -- each right side is a sum of what are none, and a product of what are none
 
+abbrev IsAny : Expr → Type 0
+IsAny x = Unit {0}
+
 abbrev AsSum : Expr → Type 0
-AsSum = IsChain sum_of NoSum (λ z. Unit {0})
+AsSum = IsChain sum_of NoSum IsAny
 
 abbrev AsProduct : Expr → Type 0
-AsProduct = IsChain product_of NoProduct (λ z. Unit {0})
+AsProduct = IsChain product_of NoProduct IsAny
 
 abbrev Both : Type 0
 Both = (c : Expr) × (AsSum c × AsProduct c)
@@ -229,7 +232,7 @@ abbrev bare_both : Both → Expr
 bare_both e = e.0
 
 no_operation : (z : Expr-F Expr) → is_sum z ≡ false → is_product z ≡ false → AsSum (roll-Expr z) × AsProduct (roll-Expr z)
-no_operation z s p = (chain_one sum_of NoSum _ (roll-Expr z) (z, (refl, s)) tt, chain_one product_of NoProduct _ (roll-Expr z) (z, (refl, p)) tt)
+no_operation z s p = (chain_one sum_of NoSum IsAny (roll-Expr z) (z, (refl, s)) tt, chain_one product_of NoProduct IsAny (roll-Expr z) (z, (refl, p)) tt)
 
 chains_step : (k : Expr-F Both) → AsSum (roll-Expr (map-Expr Both Expr bare_both k)) × AsProduct (roll-Expr (map-Expr Both Expr bare_both k))
 chains_step (Expr-F.Number z) = no_operation (Expr-F.Number z) refl refl
@@ -238,13 +241,13 @@ chains_step (Expr-F.Read a) = no_operation (Expr-F.Read a) refl refl
 chains_step (Expr-F.Neg x) = no_operation (Expr-F.Neg (x.0)) refl refl
 chains_step (Expr-F.Add x y) =
     let z : Expr-F Expr = Expr-F.Add (x.0) (y.0) in
-    (chain_more sum_of NoSum _ true (x.0) (y.0) (x.1.0) tt, chain_one product_of NoProduct _ (roll-Expr z) (z, (refl, refl)) tt)
+    (chain_more sum_of NoSum IsAny true (x.0) (y.0) (x.1.0) tt, chain_one product_of NoProduct IsAny (roll-Expr z) (z, (refl, refl)) tt)
 chains_step (Expr-F.Sub x y) =
     let z : Expr-F Expr = Expr-F.Sub (x.0) (y.0) in
-    (chain_more sum_of NoSum _ false (x.0) (y.0) (x.1.0) tt, chain_one product_of NoProduct _ (roll-Expr z) (z, (refl, refl)) tt)
+    (chain_more sum_of NoSum IsAny false (x.0) (y.0) (x.1.0) tt, chain_one product_of NoProduct IsAny (roll-Expr z) (z, (refl, refl)) tt)
 chains_step (Expr-F.Mul x y) =
     let z : Expr-F Expr = Expr-F.Mul (x.0) (y.0) in
-    (chain_one sum_of NoSum _ (roll-Expr z) (z, (refl, refl)) tt, chain_more product_of NoProduct _ tt (x.0) (y.0) (x.1.1) tt)
+    (chain_one sum_of NoSum IsAny (roll-Expr z) (z, (refl, refl)) tt, chain_more product_of NoProduct IsAny tt (x.0) (y.0) (x.1.1) tt)
 
 chains : (x : Expr) → AsSum x × AsProduct x
 chains = ind-Expr (λ x. AsSum x × AsProduct x) (λ x k is. subst (λ z. AsSum (roll-Expr z) × AsProduct (roll-Expr z)) is (chains_step k))
@@ -365,9 +368,9 @@ module _ (arrays : List ArrayDecl) (n : ℕ) where
   inner_layer (Expr-F.Iter k) q h = absurd (both_ways false refl h)
   inner_layer (Expr-F.Read a) q h = absurd (both_ways false refl h)
   inner_layer (Expr-F.Neg x) q h = absurd (both_ways false refl h)
-  inner_layer (Expr-F.Add x y) q h = infix_is true _ _ _ q ∙ ap (λ t. 40 ∷ t) (sym (infix_is false (text Sum x) (codes " + ") (text Product y) (41 ∷ q)))
-  inner_layer (Expr-F.Sub x y) q h = infix_is true _ _ _ q ∙ ap (λ t. 40 ∷ t) (sym (infix_is false (text Sum x) (codes " - ") (text Product y) (41 ∷ q)))
-  inner_layer (Expr-F.Mul x y) q h = infix_is true _ _ _ q ∙ ap (λ t. 40 ∷ t) (sym (infix_is false (text Product x) (codes " * ") (text Operand y) (41 ∷ q)))
+  inner_layer (Expr-F.Add x y) q h = infix_is true (text Sum x) (codes " + ") (text Product y) q ∙ ap (λ t. 40 ∷ t) (sym (infix_is false (text Sum x) (codes " + ") (text Product y) (41 ∷ q)))
+  inner_layer (Expr-F.Sub x y) q h = infix_is true (text Sum x) (codes " - ") (text Product y) q ∙ ap (λ t. 40 ∷ t) (sym (infix_is false (text Sum x) (codes " - ") (text Product y) (41 ∷ q)))
+  inner_layer (Expr-F.Mul x y) q h = infix_is true (text Product x) (codes " * ") (text Operand y) q ∙ ap (λ t. 40 ∷ t) (sym (infix_is false (text Product x) (codes " * ") (text Operand y) (41 ∷ q)))
 
   plain_layer : (z : Expr-F Expr) (q : List ℕ) → opens z ≡ false → layer Negated z ++ q ≡ layer Operand z ++ q
   plain_layer (Expr-F.Number (pos m)) q h = absurd (both_ways true h refl)

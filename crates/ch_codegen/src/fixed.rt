@@ -37,12 +37,19 @@ pub(crate) fn are_zero(coefs: &[i64]) -> bool
     coefs.iter().all(|coef| *coef == 0)
 }
 
+/// Whether the form is a number.
+fn is_number(bound: &Bound) -> bool
+    ensures { IsTrue result → IsNumber bound.now }
+{
+    are_zero(bound.form.coefs.as_slice())
+}
+
 /// Whether each form is a number.
 fn are_numbers(bounds: &[Bound]) -> bool
     ensures { IsTrue result → All IsNumber bounds.now }
 {
     for bound in bounds {
-        if !are_zero(bound.form.coefs.as_slice()) {
+        if !is_number(bound) {
             return false;
         }
     }
@@ -121,21 +128,35 @@ fn end_of(is_low: bool, bound: &Bound) -> i64
     }
 }
 
+/// The bound of this number, in the place of one whose form is a number.
+fn with_number(bound: Bound, number: i64) -> Bound
+    requires { IsAtMost (2 ^ 60) number }
+    ensures coefs { result.form.coefs ≡ bound.form.coefs }
+    ensures constant { result.form.constant ≡ number }
+    ensures divisor { result.divisor ≡ 1 }
+{
+    let Bound { form, .. } = bound;
+    let Aff { coefs, .. } = form;
+    Bound {
+        form: Aff {
+            coefs,
+            constant: number,
+        },
+        divisor: 1,
+    }
+}
+
 /// The bound, without a divisor where its form is a number.
+#[tactic(auto, using(crate::proofs::Said::replaced, crate::proofs::Said::replaces_itself))]
 pub(crate) fn simple(is_low: bool, bound: Bound) -> Bound
     requires { 1 ≤ bound.divisor }
     ensures { Replaces is_low bound result }
 {
-    if bound.divisor == 1 || !are_zero(bound.form.coefs.as_slice()) {
+    if !is_number(&bound) {
         return bound;
     }
-    let constant = end_of(is_low, &bound);
-    let Bound { form, .. } = bound;
-    let Aff { coefs, .. } = form;
-    Bound {
-        form: Aff { coefs, constant },
-        divisor: 1,
-    }
+    let number = end_of(is_low, &bound);
+    with_number(bound, number)
 }
 
 /// The range between bounds that are numbers, or None where some aren't.

@@ -51,11 +51,12 @@ pub(crate) fn code_of(alloc: Global, pieces: &[Piece], around: Around) -> Result
         Executes around.depth around.known pieces.now code) }
     ensures formed { IfOk result (λ code. IsFormed around.depth pieces.now code) }
 {
+    let depth = around.depth;
     let mut parts = List::new(alloc);
     let mut start = 0;
     while start < pieces.len() {
         let rest = &pieces[start..];
-        let count = run_end(rest, around.depth);
+        let count = run_end(rest, depth);
         let part = run_code(alloc, &rest[..count], around)?;
         parts.push(part)?;
         start += count;
@@ -74,9 +75,10 @@ fn run_code(alloc: Global, run: &[Piece], around: Around) -> Result<Code, AllocE
         Executes around.depth around.known run.now code) }
     ensures formed { IfOk result (λ code. IsFormed around.depth run.now code) }
 {
+    let depth = around.depth;
     let first = &run[0];
-    if first.levels as usize == around.depth {
-        return end_code(alloc, first, around.depth, around.known);
+    if first.levels as usize == depth {
+        return end_code(alloc, first, depth, around.known);
     }
     if !are_plain(run) {
         return hull_code(alloc, run, around);
@@ -121,24 +123,17 @@ fn loop_code(alloc: Global, run: &[Piece], around: Around) -> Result<Code, Alloc
         Executes around.depth around.known run.now code) }
     ensures formed { IfOk result (λ code. IsFormed around.depth run.now code) }
 {
-    if let Some(ends) = shared_ends(alloc, run, around.depth)? {
+    let depth = around.depth;
+    if let Some(ends) = shared_ends(alloc, run, depth)? {
         let inside = Around {
-            depth: around.depth + 1,
+            depth: depth + 1,
             ..around
         };
         let inner = code_of(alloc, run, inside)?;
-        return loop_between(alloc, around.depth, ends.lows, ends.highs, inner);
+        return loop_between(alloc, depth, ends.lows, ends.highs, inner);
     }
-    if let Some(ranges) = fixed_ranges(alloc, run, around.depth)? {
-        let statements = statements_cut(ranges.as_slice());
-        let most = run.len().saturating_mul(around.copies);
-        if statements <= most {
-            let each = Around {
-                copies: most / statements,
-                ..around
-            };
-            return cut_code(alloc, run, ranges.as_slice(), each);
-        }
+    if let Some(ranges) = fixed_ranges(alloc, run, depth)? {
+        return cut_code(alloc, run, ranges.as_slice(), around);
     }
     hull_code(alloc, run, around)
 }
@@ -154,18 +149,20 @@ fn hull_code(alloc: Global, run: &[Piece], around: Around) -> Result<Code, Alloc
         Executes around.depth around.known run.now code) }
     ensures formed { IfOk result (λ code. IsFormed around.depth run.now code) }
 {
-    let range = shared_range(run, around.depth);
+    let depth = around.depth;
+    let range = shared_range(run, depth);
     let inside = Around {
-        depth: around.depth + 1,
+        depth: depth + 1,
         known: false,
         ..around
     };
     let inner = code_of(alloc, run, inside)?;
-    loop_over(alloc, around.depth, range, inner)
+    loop_over(alloc, depth, range, inner)
 }
 
 /// The code of pieces that share the next loop, where each has a fixed range there: one loop for
-/// each stretch of values with the same pieces.
+/// each stretch of values with the same pieces, or one over all values where too many statements
+/// came of it.
 #[cycle(code)]
 fn cut_code(
     alloc: Global,
@@ -182,13 +179,22 @@ fn cut_code(
         Executes around.depth around.known run.now code) }
     ensures formed { IfOk result (λ code. IsFormed around.depth run.now code) }
 {
+    let statements = statements_cut(ranges);
+    let most = run.len().saturating_mul(around.copies);
+    if statements > most {
+        return hull_code(alloc, run, around);
+    }
+    let each = Around {
+        copies: most / statements,
+        ..around
+    };
     let whole = whole_range(ranges);
     let mut parts = List::new(alloc);
     let mut low = whole.low;
     while low <= whole.high {
         let high = cut_end(ranges, low, whole.high);
         let stretch = Range { low, high };
-        match stretch_code(alloc, run, ranges, around, stretch)? {
+        match stretch_code(alloc, run, ranges, each, stretch)? {
             Some(part) => parts.push(part)?,
             None => {}
         }
@@ -219,16 +225,17 @@ fn stretch_code(
         (IsTurn stretch.low stretch.high run.now) (trace code))) }
     ensures formed { IfOk result (λ o. IfSome o (λ code. IsFormed around.depth run.now code)) }
 {
+    let depth = around.depth;
     let active = active_pieces(alloc, run, ranges, stretch.low)?;
     if active.is_empty() {
         return Ok(None);
     }
     let inside = Around {
-        depth: around.depth + 1,
+        depth: depth + 1,
         ..around
     };
     let inner = code_of(alloc, active.as_slice(), inside)?;
-    Ok(Some(loop_over(alloc, around.depth, stretch, inner)?))
+    Ok(Some(loop_over(alloc, depth, stretch, inner)?))
 }
 
 /// Code that executes a space's list, in the order of its time vectors, over the nest's arrays and

@@ -6,7 +6,7 @@ use crate::bounds::Ends;
 use ch_affine::Aff;
 use ch_code::Bound;
 
-pub(crate) fn same_numbers(ours: &[i64], theirs: &[i64]) -> bool
+fn same_numbers(ours: &[i64], theirs: &[i64]) -> bool
     ensures { IsTrue result → ours.now ≡ theirs.now }
 {
     if ours.len() != theirs.len() {
@@ -18,6 +18,13 @@ pub(crate) fn same_numbers(ours: &[i64], theirs: &[i64]) -> bool
         }
     }
     true
+}
+
+/// Whether two forms differ in their constants alone.
+pub(crate) fn same_coefs(ours: &Aff, theirs: &Aff) -> bool
+    ensures { IsTrue result → ours.now.coefs ≡ theirs.now.coefs }
+{
+    same_numbers(ours.coefs.as_slice(), theirs.coefs.as_slice())
 }
 
 pub(crate) fn same_form(ours: &Aff, theirs: &Aff) -> bool

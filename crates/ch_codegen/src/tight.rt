@@ -3,17 +3,18 @@
 ghost use Rattle.std.specs.Prelude.{◌≡◌, ◌⊎◌, ◌++◌, [], ◌∷◌, IfOk, IsTrue};
 ghost use Rattle.ch_codegen.specs.Bounds.{Adds, Implies, IsBeyond, IsSaid, Thins};
 
-use crate::same::same_numbers;
+use crate::same::same_coefs;
 use ch_affine::List;
 use ch_code::Bound;
 use std::alloc::{AllocError, Global};
 
 /// Whether a bound says all that another one says: they differ in their constants alone.
+#[tactic(auto, using(crate::proofs::Said::implied))]
 fn implies(is_low: bool, ours: &Bound, theirs: &Bound) -> bool
     ensures { IsTrue result → Implies is_low ours.now theirs.now }
 {
     ours.divisor == theirs.divisor
-        && same_numbers(ours.form.coefs.as_slice(), theirs.form.coefs.as_slice())
+        && same_coefs(&ours.form, &theirs.form)
         && is_beyond(is_low, ours.form.constant, theirs.form.constant)
 }
 
@@ -55,12 +56,12 @@ fn with_unsaid(
     is_low: bool,
     mut kept: List<Bound>,
     bound: &Bound,
-    new: &Bound,
+    added: &Bound,
 ) -> Result<List<Bound>, AllocError>
     ensures { IfOk result (λ all. (all ≡ kept ++ bound.now ∷ [])
-        ⊎ ((all ≡ kept) × Implies is_low new.now bound.now)) }
+        ⊎ ((all ≡ kept) × Implies is_low added.now bound.now)) }
 {
-    if !implies(is_low, new, bound) {
+    if !implies(is_low, added, bound) {
         kept.push(copied_bound(alloc, bound)?)?;
     }
     Ok(kept)
@@ -71,13 +72,13 @@ fn unsaid(
     alloc: Global,
     is_low: bool,
     bounds: &[Bound],
-    new: &Bound,
+    added: &Bound,
 ) -> Result<List<Bound>, AllocError>
-    ensures { IfOk result (λ kept. Thins is_low new.now bounds.now kept) }
+    ensures { IfOk result (λ kept. Thins is_low added.now bounds.now kept) }
 {
     let mut kept = List::new(alloc);
     for bound in bounds {
-        kept = with_unsaid(alloc, is_low, kept, bound, new)?;
+        kept = with_unsaid(alloc, is_low, kept, bound, added)?;
     }
     Ok(kept)
 }

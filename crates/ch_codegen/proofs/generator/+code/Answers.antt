@@ -238,6 +238,12 @@ stretch_code-returns-clause-formed t c =
 
 -- all stretches
 
+pub cut_code-statements_cut-statements-requires-clause-some : goal.cut_code-statements_cut-statements-requires-clause-some
+cut_code-statements_cut-statements-requires-clause-some t c = subst (λ n. 0 < n) (sym (same_length c.args.around.depth c.args.run.now c.args.ranges.now c.requires.ranges)) c.requires.some
+
+pub cut_code-statements_cut-statements-requires-clause-boxes : goal.cut_code-statements_cut-statements-requires-clause-boxes
+cut_code-statements_cut-statements-requires-clause-boxes t c = ranges_boxes c.args.around.depth c.args.run.now c.args.ranges.now c.requires.ranges
+
 pub cut_code-whole_range-whole-requires-clause-some : goal.cut_code-whole_range-whole-requires-clause-some
 cut_code-whole_range-whole-requires-clause-some t c = subst (λ n. 0 < n) (sym (same_length c.args.around.depth c.args.run.now c.args.ranges.now c.requires.ranges)) c.requires.some
 

@@ -8,22 +8,22 @@ use Rattle.ch_codegen.specs.Parts.{AllPrecede, IsAmong, IsTurn, Lists}
 use Rattle.ch_codegen.proofs.generator.+code.Given as goal
 
 abbrev pub decreases-code_of : goal.decreases-code_of
-decreases-code_of l = 16 * (4097 - l.around.depth) + cond l.around.known 0 8 + 5
+decreases-code_of l = 16 * (4097 - l.around.depth) + cond l.around.known 0 8 + 6
 
 abbrev pub decreases-run_code : goal.decreases-run_code
-decreases-run_code l = 16 * (4097 - l.around.depth) + cond l.around.known 0 8 + 4
+decreases-run_code l = 16 * (4097 - l.around.depth) + cond l.around.known 0 8 + 5
 
 abbrev pub decreases-guarded_code : goal.decreases-guarded_code
-decreases-guarded_code l = 16 * (4097 - l.around.depth) + 8 + 3
+decreases-guarded_code l = 16 * (4097 - l.around.depth) + 8 + 4
 
 abbrev pub decreases-loop_code : goal.decreases-loop_code
-decreases-loop_code l = 16 * (4097 - l.around.depth) + cond l.around.known 0 8 + 2
+decreases-loop_code l = 16 * (4097 - l.around.depth) + cond l.around.known 0 8 + 3
 
 abbrev pub decreases-hull_code : goal.decreases-hull_code
 decreases-hull_code l = 16 * (4097 - l.around.depth) + cond l.around.known 0 8 + 1
 
 abbrev pub decreases-cut_code : goal.decreases-cut_code
-decreases-cut_code l = 16 * (4097 - l.around.depth) + cond l.around.known 0 8 + 1
+decreases-cut_code l = 16 * (4097 - l.around.depth) + cond l.around.known 0 8 + 2
 
 abbrev pub decreases-stretch_code : goal.decreases-stretch_code
 decreases-stretch_code l = 16 * (4097 - l.around.depth) + cond l.around.known 0 8
