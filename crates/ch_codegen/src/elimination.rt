@@ -116,12 +116,13 @@ fn has_row(rows: &[Aff], row: &Aff) -> bool {
     false
 }
 
-/// Whether the row can bound the loop inside `depth` others, whose variable is its last one.
-fn bounds_loop(row: &Aff, depth: usize) -> bool
+/// Whether the row can bound the loop inside `depth` others, whose variable is its last one, and is
+/// none of those that are known, of which there may be so many at most.
+fn is_further(known: &[Aff], most: usize, row: &Aff, depth: usize) -> bool
     requires { depth < length row.now.coefs }
     ensures { IsTrue result → HasSmallEnd row.now }
 {
-    is_last(row, depth) && has_small_end(row)
+    known.len() < most && is_last(row, depth) && has_small_end(row) && !has_row(known, row)
 }
 
 /// Adds those rows that can bound the loop inside `depth` others.
@@ -143,7 +144,7 @@ fn with_plain(
     let mut all = own;
     let most = all.len().saturating_add(MOST_FURTHER);
     for row in rows {
-        if all.len() < most && bounds_loop(row, depth) && !has_row(all.as_slice(), row) {
+        if is_further(all.as_slice(), most, row, depth) {
             all.push(row.copied(alloc)?)?;
         }
     }

@@ -147,7 +147,7 @@ fn with_number(bound: Bound, number: i64) -> Bound
 }
 
 /// The bound, without a divisor where its form is a number.
-#[tactic(auto, using(crate::proofs::Said::replaced, crate::proofs::Said::replaces_itself))]
+#[tactic(auto, using(crate::proofs::Said::replaces_itself))]
 pub(crate) fn simple(is_low: bool, bound: Bound) -> Bound
     requires { 1 ≤ bound.divisor }
     ensures { Replaces is_low bound result }

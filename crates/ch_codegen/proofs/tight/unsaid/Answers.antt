@@ -1,8 +1,10 @@
+use Rattle.std.proofs.Common.{[], subst, sym}
+use Rattle.ch_codegen.specs.Bounds.{Thins}
 use Rattle.ch_codegen.proofs.Said.{thins_more, thins_none, thins_whole}
 use Rattle.ch_codegen.proofs.tight.unsaid.Goals as goal
 
 pub loop-bound-init : goal.loop-bound-init
-loop-bound-init c = thins_none c.args.is_low c.args.added.now
+loop-bound-init c = subst (Thins c.args.is_low c.args.added.now []) (sym c.new-kept.ensures) (thins_none c.args.is_low c.args.added.now)
 
 pub loop-bound-preserved : goal.loop-bound-preserved
 loop-bound-preserved c =
