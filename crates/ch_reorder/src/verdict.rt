@@ -224,8 +224,9 @@ fn code_text(alloc: Global, nest: &Nest, space: &Space) -> Result<Text, AllocErr
         return disagreement(alloc);
     }
     let unit = generate(alloc, nest, space)?;
-    let walked = walked(alloc, &unit, &elements(alloc, space)?)?;
-    if !walked.fits {
+    let list = elements(alloc, space)?;
+    let found = walked(alloc, &unit, &list)?;
+    if !found.fits {
         return disagreement(alloc);
     }
     let parts = parts_of(alloc, &unit.root)?;
@@ -237,7 +238,7 @@ fn code_text(alloc: Global, nest: &Nest, space: &Space) -> Result<Text, AllocErr
     out.append(b" statements ")?;
     put_number(&mut out, u64::from(parts.statements))?;
     out.append(b" turns ")?;
-    put_number(&mut out, u64::from(walked.turns))?;
+    put_number(&mut out, u64::from(found.turns))?;
     Ok(out)
 }
 
