@@ -87,9 +87,9 @@ piece 1 S1 places 0 1 count 1 first S1(0) last S1(0)
 piece 2 S2 places 0 2 count 1 first S2(0) last S2(0)
 array A[1]
 for x1 = 0 to 0 {
-  S0(i1 = x1) at 0 0: A[i1] = ((A[i1] * A[i1]) + (A[i1] * A[i1]))
-  S1(i1 = x1) at 0 1: A[i1] = (A[i1] - 1)
-  S2(i1 = x1) at 0 2: A[i1] = (A[i1] * 3)
+  S0(i1 = x1) at 0 0: A[i1] = A[i1] * A[i1] + A[i1] * A[i1]
+  S1(i1 = x1) at 0 1: A[i1] = A[i1] - 1
+  S2(i1 = x1) at 0 2: A[i1] = A[i1] * 3
 }
 end
 ";
@@ -102,9 +102,8 @@ program t legal pieces 1 instances 3
 piece 0 S0 places 0 0 0 count 3 first S0(0,0) last S0(1,1)
 array A[2][2]
 for x1 = 0 to 1
-  for x2 = 0 to 1
-    if 0 <= x1 <= 1, 0 <= x2 <= 1 and x1 >= 0 and -x1 + 1 >= 0 and x2 >= 0 and x1 - x2 >= 0
-      S0(i1 = x1, i2 = x2) at 0 0 0: A[i1][i2] = ((10 * i1) + i2)
+  for x2 = 0 to min(1, x1)
+    S0(i1 = x1, i2 = x2) at 0 0 0: A[i1][i2] = 10 * i1 + i2
 end
 ";
 
