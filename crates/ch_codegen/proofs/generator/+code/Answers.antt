@@ -90,8 +90,8 @@ guarded_code-returns-clause-formed t c =
 pub hull_code-shared_range-range-requires-clause-deep : goal.hull_code-shared_range-range-requires-clause-deep
 hull_code-shared_range-range-requires-clause-deep t c = run_deep c.args.run.now c.args.around.depth c.requires.apart c.requires.systems c.requires.together
 
-pub hull_code-overflow_add-depth : goal.hull_code-overflow_add-depth
-hull_code-overflow_add-depth t c =
+pub hull_code-overflow_add-inside : goal.hull_code-overflow_add-inside
+hull_code-overflow_add-inside t c =
     let few = depth_small c.args.run.now c.args.around.depth c.requires.some c.requires.apart c.requires.systems c.requires.together in
     omega (arith, few)
 
@@ -132,8 +132,8 @@ loop_code-shared_ends-requires-clause-deep t c = run_deep c.args.run.now c.args.
 pub loop_code-fixed_ranges-requires-clause-deep : goal.loop_code-fixed_ranges-requires-clause-deep
 loop_code-fixed_ranges-requires-clause-deep t c = run_deep c.args.run.now c.args.around.depth c.requires.apart c.requires.systems c.requires.together
 
-pub loop_code-overflow_add-depth : goal.loop_code-overflow_add-depth
-loop_code-overflow_add-depth t c =
+pub loop_code-overflow_add-inside : goal.loop_code-overflow_add-inside
+loop_code-overflow_add-inside t c =
     let few = depth_small c.args.run.now c.args.around.depth c.requires.some c.requires.apart c.requires.systems c.requires.together in
     omega (arith, few)
 
@@ -178,8 +178,8 @@ stretch_code-returns-then-is_empty-clause-lists t c =
     let e : c.in_ok-active.active ≡ actives c.args.stretch.low c.args.run.now c.args.ranges.now = simp to_z-of_z at c.in_ok-active.ensures in
     stretch_none c.args.around.depth c.args.around.known c.args.run.now c.args.ranges.now c.args.stretch.low c.args.stretch.high c.requires.ranges c.requires.steady (sym e ∙ c.is_empty.ensures.0 c.if-is_empty.true)
 
-pub stretch_code-overflow_add-depth : goal.stretch_code-overflow_add-depth
-stretch_code-overflow_add-depth t c =
+pub stretch_code-overflow_add-inside : goal.stretch_code-overflow_add-inside
+stretch_code-overflow_add-inside t c =
     let few = depth_small c.args.run.now c.args.around.depth c.requires.pieces c.requires.apart c.requires.systems c.requires.together in
     omega (arith, few)
 

@@ -42,8 +42,8 @@ decreases-code_of-loop-start l = length l.pieces - l.start
 abbrev pub invariant-cut_code-loop-low : goal.invariant-cut_code-loop-low
 invariant-cut_code-loop-low l = record {
   after : l.whole.low ≤ℤ l.low;
-  lists : Lists (IsAround l.around.depth l.around.known l.run) (IsTurn l.whole.low (l.low -ℤ pos 1) l.run) (one_by_one (map trace l.parts));
-  formed : Each (IsFormed l.around.depth l.run) l.parts;
+  lists : Lists (IsAround l.fn.around.depth l.fn.around.known l.run) (IsTurn l.whole.low (l.low -ℤ pos 1) l.run) (one_by_one (map trace l.parts));
+  formed : Each (IsFormed l.fn.around.depth l.run) l.parts;
 }
 
 abbrev pub decreases-cut_code-loop-low : goal.decreases-cut_code-loop-low
