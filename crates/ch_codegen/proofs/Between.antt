@@ -1,21 +1,19 @@
 -- A loop's turns are the numbers between its bounds.
-use Rattle.std.proofs.Common.{◌≡◌, ◌≢◌, refl, sym, ap, ap₂, ◌∙◌, subst, ℕ, zero, suc, ◌+◌, ◌<◌, ◌≤◌, ◌^◌, ◌&&◌, ℤ, pos, negsuc, neg_ℤ, ◌+ℤ◌, ◌-ℤ◌, ◌*ℤ◌, ◌≤ℤ◌, ◌<ℤ◌, Bool, true, false, nat_eq, nat_le, unsigned_abs, List, [], ◌∷◌, ◌++◌, length, map, take, drop, get_or, ◌⊎◌, inl, inr, arith, length-take-le}
+use Rattle.std.proofs.Common.{◌≡◌, ◌≢◌, refl, sym, ap, ◌∙◌, ℕ, zero, suc, ◌<◌, ◌≤◌, ℤ, pos, negsuc, neg_ℤ, ◌+ℤ◌, ◌*ℤ◌, ◌≤ℤ◌, ◌<ℤ◌, true, false, nat_eq, nat_le, unsigned_abs, List, [], ◌∷◌, ◌++◌, length, map, take, get_or, arith, length-take-le}
 use Rattle.std.specs.List.{list_all}
 use Rattle.std.specs.Int.{int_div_euclid, int_max, int_min}
 use Rattle.std.proofs.lemmas.Bool.{and_from, and_parts}
 use Rattle.std.proofs.lemmas.Bool.Decides.{nat_tests}
 use Rattle.std.proofs.lemmas.Int.{ints, int_max_is, int_min_is}
-use Rattle.std.proofs.Math.IntN.{zero-*ℤ, +ℤ_assoc, *ℤ_comm}
+use Rattle.std.proofs.Math.IntN.{zero-*ℤ}
 use Rattle.ch_affine.specs.Affine.{dot, value}
 use Rattle.ch_affine.specs.Form.{Form}
-use Rattle.ch_affine.specs.declared.system.Range.{Range}
-use Rattle.ch_affine.proofs.Integers.{plus_times, times_plus}
+use Rattle.ch_affine.proofs.Integers.{plus_times}
 use Rattle.ch_code.specs.declared.code.Bound.{Bound}
 use Rattle.ch_code.specs.Trace.{high_of, low_of}
 use Rattle.ch_code.specs.WellFormed.{bound_fits, bounds_fit, form_fits}
 use Rattle.ch_nest.specs.Run.{greatest, least}
-use Rattle.ch_timed.specs.Members.{Each, In}
-use Rattle.ch_codegen.specs.Around.{IsLast}
+use Rattle.ch_timed.specs.Members.{Each}
 use Rattle.ch_codegen.specs.Bounds.{Adds, AreFit, IsAbove, IsBelow, IsBetween, IsGrown, front, high_bound, low_bound, negated_front}
 use Rattle.ch_codegen.proofs.Followed.{turn_value}
 use Rattle.ch_codegen.proofs.Quotients.{above_from, above_to, below_from, below_to}

@@ -11,7 +11,7 @@ use Rattle.ch_space.specs.Pieces.{element_at, instances}
 use Rattle.ch_timed.specs.declared.element.Element.{Element}
 use Rattle.ch_timed.specs.Members.{Each, In}
 use Rattle.ch_codegen.specs.Parts.{Ascends, End, InRanges, IsAmong, IsEarlier, IsTurn, Lists, looped, Together, Precedes, AllPrecede}
-use Rattle.ch_codegen.specs.Around.{Follows, IsAround, Keeps, Ties}
+use Rattle.ch_codegen.specs.Around.{Keeps}
 use Rattle.ch_codegen.proofs.Inside.{in_append, append_left, append_right, length_inside, instance_inside, inside_instance, begun_inside}
 use Rattle.ch_codegen.proofs.Vectors.{place_less, end_less, turn_less}
 

@@ -1,15 +1,15 @@
 -- Bounds that say nothing beside others, and bounds without variables, whose divisor is 1 then.
-use Rattle.std.proofs.Common.{◌≡◌, refl, sym, ap, ◌∙◌, subst, ℕ, zero, suc, ◌+◌, ◌<◌, ◌≤◌, ◌⊎◌, inl, inr, ℤ, pos, ◌*ℤ◌, ◌≤ℤ◌, Bool, true, false, nat_eq, nat_le, List, [], ◌∷◌, ◌++◌, length, take, get_or, arith, length-append}
+use Rattle.std.proofs.Common.{◌≡◌, refl, sym, ap, ◌∙◌, subst, ℕ, ◌+◌, ◌<◌, ◌≤◌, ◌⊎◌, inl, inr, ℤ, pos, ◌*ℤ◌, Bool, true, false, nat_eq, nat_le, List, [], ◌∷◌, ◌++◌, length, take, get_or, arith, length-append}
 use Rattle.std.specs.List.{All, list_all}
 use Rattle.std.proofs.lemmas.Bool.{and_from, and_parts}
 use Rattle.std.proofs.lemmas.Bool.Decides.{nat_tests}
 use Rattle.std.proofs.lemmas.Int.{ints}
 use Rattle.std.proofs.lemmas.List.{take_all, take_more}
-use Rattle.ch_affine.specs.Affine.{dot, value}
+use Rattle.ch_affine.specs.Affine.{dot}
 use Rattle.ch_code.specs.declared.code.Bound.{Bound}
-use Rattle.ch_code.specs.WellFormed.{bound_fits, bounds_fit, form_fits}
+use Rattle.ch_code.specs.WellFormed.{bound_fits, form_fits}
 use Rattle.ch_timed.specs.Members.{Each}
-use Rattle.ch_codegen.specs.Bounds.{Adds, Implies, IsAbove, IsBelow, IsBeyond, IsNumber, IsSaid, Meets, Replaces, Thins, end_of}
+use Rattle.ch_codegen.specs.Bounds.{Adds, Implies, IsBeyond, IsNumber, IsSaid, Meets, Replaces, Thins, end_of}
 use Rattle.ch_codegen.proofs.Fixes.{down_from, down_to, each_at, number_value, up_from, up_to}
 
 pub implied : (is_low : Bool) (b c : Bound) → b.divisor ≡ c.divisor → b.form.coefs ≡ c.form.coefs → IsBeyond is_low b.form.constant c.form.constant → Implies is_low b c

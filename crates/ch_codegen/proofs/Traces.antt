@@ -1,5 +1,5 @@
 -- What each kind of code tree executes, and loops between two numbers.
-use Rattle.std.proofs.Common.{◌≡◌, refl, sym, ap, ap₂, ◌∙◌, ℕ, zero, suc, ℤ, pos, negsuc, neg_ℤ, List, [], ◌∷◌, ◌++◌, map, replicate, arith, append-nil, append_assoc}
+use Rattle.std.proofs.Common.{◌≡◌, refl, sym, ap, ◌∙◌, ℕ, zero, suc, ℤ, pos, negsuc, neg_ℤ, List, [], ◌∷◌, ◌++◌, map, replicate, arith, append-nil, append_assoc}
 use Rattle.std.proofs.lemmas.Int.{ints}
 use Rattle.std.proofs.lemmas.List.{map-append}
 use Rattle.std.proofs.Math.IntN.{zero-*ℤ}
@@ -11,8 +11,7 @@ use Rattle.ch_code.specs.declared.code.Code.{Code}
 use Rattle.ch_code.specs.declared.code.Code.TheOpen.{Code-F}
 use Rattle.ch_code.specs.declared.code.Code.TheFolds.{fold-roll-Code}
 use Rattle.ch_code.specs.declared.code.Code.TheVariants.{Seq, Loop, Guard, rolls-Seq, rolls-Loop, rolls-Guard, rolls-Leaf}
-use Rattle.ch_code.specs.Trace.{Traced, guarded, high_of, low_of, one_by_one, trace, trace_step, turns_listed}
-use Rattle.ch_nest.specs.Run.{count}
+use Rattle.ch_code.specs.Trace.{Traced, guarded, high_of, low_of, one_by_one, trace, trace_step}
 use Rattle.ch_poly.specs.Points.{begins_some}
 use Rattle.ch_space.specs.declared.piece.Piece.{Piece}
 use Rattle.ch_space.specs.Pieces.{element_at}

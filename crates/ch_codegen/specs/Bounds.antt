@@ -1,5 +1,5 @@
 -- Numbers between the bounds of a loop, and the bounds that the rows of a system give.
-use Rattle.std.specs.Prelude.{◌≡◌, ◌≢◌, Bool, true, false, ℕ, suc, ◌<◌, ◌≤◌, ◌^◌, ℤ, pos, ◌≤ℤ◌, ◌*ℤ◌, neg_ℤ, unsigned_abs, IsTrue, List, [], ◌∷◌, ◌++◌, length, map, take, slice_index_or}
+use Rattle.std.specs.Prelude.{◌≡◌, Bool, true, false, ℕ, suc, ◌<◌, ◌≤◌, ◌^◌, ℤ, pos, ◌≤ℤ◌, ◌*ℤ◌, neg_ℤ, unsigned_abs, IsTrue, List, [], ◌∷◌, ◌++◌, length, map, take, slice_index_or}
 use Rattle.std.specs.List.{All, list_all}
 use Rattle.std.specs.Int.{int_div_euclid}
 use Rattle.ch_affine.specs.Affine.{form, value}

@@ -1,4 +1,4 @@
-use Rattle.std.proofs.Common.{◌≡◌, ◌≢◌, ◌<◌, ◌≤◌, ◌≤ℤ◌, ◌<ℤ◌, ◌+ℤ◌, ℤ, List, to_z, suc, rules, SFits, w64, pos, Bool, sym, refl, ap, ◌∙◌, subst, arith, length, length-drop, zero, [], true, false, add-one}
+use Rattle.std.proofs.Common.{◌≡◌, ◌<◌, ◌+ℤ◌, ℤ, List, to_z, suc, rules, SFits, w64, pos, Bool, sym, ◌∙◌, subst, arith, length-drop, true, false, add-one}
 use Rattle.std.proofs.lemmas.Int.{ints, to_z-of_z}
 use Rattle.std.proofs.lemmas.Result.{IfOk-weaker}
 use Rattle.std.proofs.lemmas.List.{take_rest}
@@ -8,7 +8,7 @@ use Rattle.ch_affine.specs.Rows.{IsSystem}
 use Rattle.ch_timed.specs.declared.element.Element.{Element}
 use Rattle.ch_timed.specs.Members.{Each}
 use Rattle.ch_timed.proofs.Orders.{at_each}
-use Rattle.ch_codegen.specs.Bounds.{Binds, IsPlain}
+use Rattle.ch_codegen.specs.Bounds.{Binds}
 use Rattle.ch_codegen.proofs.Neighbours.{whole_in}
 use Rattle.ch_codegen.specs.Cuts.{actives}
 use Rattle.ch_codegen.specs.Formed.{HasBody, IsFormed}
@@ -17,7 +17,7 @@ use Rattle.ch_space.specs.Keeps.{AreApart}
 use Rattle.ch_codegen.proofs.Actives.{actives_apart, actives_each, actives_together, ranges_boxes, same_length}
 use Rattle.ch_codegen.proofs.Forming.{formed_more, guard_formed, loop_formed, run_formed, sequence_is_formed}
 use Rattle.ch_codegen.proofs.Listing.{bound_listed, code_more, code_whole, guard_listed, hull_listed, numbers_fit, numbers_narrow, natural_falls, stretch_box, stretch_listed, stretch_none, AreStretches, next_fits, not_le, stretches_keep, stretches_push, stretches_whole}
-use Rattle.ch_codegen.proofs.Steps.{apart_first, first_in, first_of, only_one, apart_rest, depth_small, precede_more, run_deep, run_is_one, run_together, some_first, systems_first, systems_rest, together_rest}
+use Rattle.ch_codegen.proofs.Steps.{apart_first, first_in, first_of, only_one, apart_rest, depth_small, precede_more, run_deep, run_is_one, some_first, systems_first, systems_rest, together_rest}
 use Rattle.ch_codegen.proofs.generator.+code.Goals.{cut_code-in-Some+in_ok-push-in-Some, cut_code-in-None}
 use Rattle.ch_codegen.proofs.generator.+code.Goals as goal
 

@@ -1,4 +1,4 @@
-use Rattle.std.proofs.Common.{◌≡◌, ◌∙◌, sym, ap, subst, length, true, []}
+use Rattle.std.proofs.Common.{◌∙◌, sym, ap, subst, length, true}
 use Rattle.ch_code.specs.Trace.{trace}
 use Rattle.ch_code.specs.UnitParts.{unit_of}
 use Rattle.ch_space.specs.Keeps.{AreApart}

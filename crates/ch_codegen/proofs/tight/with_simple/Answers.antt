@@ -1,4 +1,4 @@
-use Rattle.std.proofs.Common.{◌∙◌, subst, sym}
+use Rattle.std.proofs.Common.{subst}
 use Rattle.ch_codegen.specs.Bounds.{IsSaid, Thins}
 use Rattle.ch_codegen.proofs.Said.{adds_said, adds_thin}
 use Rattle.ch_codegen.proofs.tight.with_simple.Goals as goal
