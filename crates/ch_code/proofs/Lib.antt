@@ -1,4 +1,6 @@
+pub mod Chains
 pub mod EmptyUnits
+pub mod GuardCounts
 pub mod ReadBodies
 pub mod ReadCode
 pub mod ReadExprs

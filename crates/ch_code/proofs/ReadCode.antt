@@ -95,7 +95,7 @@ module _ (arrays : List ArrayDecl) where
   read_leaf n a b x y fs gs ps qs r q e =
       let s = read_instance n a b fs gs _ _ (sym (leaf_is n a x fs ps r) ∙ e ∙ leaf_is n b y gs qs q) in
       let t = read_places ps qs (32 ∷ (body_text arrays (length fs) x ++ 10 ∷ r)) (32 ∷ (body_text arrays (length gs) y ++ 10 ∷ q)) (append_cancel_left (codes " at") _ _ (s.2)) in
-      let u = read_body arrays (length gs) x y (10 ∷ r) (10 ∷ q) refl refl
+      let u = read_body arrays (length gs) x y (10 ∷ r) (10 ∷ q) (refl, refl) (refl, refl)
       (sym (ap (λ zs. body_text arrays (length zs) x ++ 10 ∷ r) (s.1)) ∙ behind_one _ _ _ _ (t.1)) in
       (s.0, u.0, s.1, t.0, behind_one _ _ _ _ (u.1))
 

@@ -9,9 +9,10 @@ use Rattle.ch_nest.specs.declared.nest.Body.{Body}
 use Rattle.ch_nest.specs.declared.nest.Expr.{Expr}
 use Rattle.ch_nest.specs.declared.nest.Expr.TheVariants.{Number, Iter, Read, Neg, Add, Sub, Mul, rolls-Number, rolls-Iter, rolls-Read, rolls-Neg, rolls-Add, rolls-Sub, rolls-Mul}
 use Rattle.ch_nest.specs.declared.nest.Expr.TheFolds.{fold-roll-Expr}
-use Rattle.ch_print.specs.Numbers.{integer_text}
 use Rattle.ch_timed.specs.declared.element.Label.{Label}
-use Rattle.ch_code.specs.BodyText.{access_text, expr_layer, expr_text, infix_text}
+use Rattle.ch_code.specs.BodyText.{Side, access_text, encloses_number, encloses_product, encloses_sum, expr_layer, expr_text, infix_text, operand_text}
+use Rattle.ch_code.specs.declared.bodies.Standing.{Standing}
+use Rattle.ch_code.specs.declared.bodies.Standing.TheVariants.{Sum, Product, Operand, Negated}
 use Rattle.ch_code.specs.FormText.{original, variable_text}
 use Rattle.ch_code.specs.LoopText.{for_text, if_text}
 use Rattle.ch_code.specs.CodeText.{Printed, brace_lead, braced_text, code_layer, code_text, lead, leaf_text, level_of}
@@ -20,27 +21,36 @@ use Rattle.ch_code.specs.declared.code.Code.{Code}
 use Rattle.ch_code.specs.declared.code.Code.TheVariants.{Seq, Loop, Guard, Leaf, rolls-Seq, rolls-Loop, rolls-Guard, rolls-Leaf}
 use Rattle.ch_code.specs.declared.code.Code.TheFolds.{fold-roll-Code}
 
-module _ (arrays : List ArrayDecl) (n : ℕ) where
-  pub number_is : (z : ℤ) → expr_text arrays n (Number z) ≡ integer_text z
-  number_is z = ap (expr_text arrays n) (sym (rolls-Number z)) ∙ fold-roll-Expr (List ℕ) (expr_layer arrays n) _
+module _ (arrays : List ArrayDecl) (n : ℕ) (standing : Standing) where
+  at_standing : {f g : Side} → f ≡ g → f standing ≡ g standing
+  at_standing e = ap (λ f. f standing) e
 
-  pub iter_is : (k : ℕ) → expr_text arrays n (Iter k) ≡ variable_text original (suc k)
-  iter_is k = ap (expr_text arrays n) (sym (rolls-Iter k)) ∙ fold-roll-Expr (List ℕ) (expr_layer arrays n) _
+  pub number_is : (z : ℤ) → expr_text arrays n (Number z) standing ≡ operand_text (encloses_number standing z) z
+  number_is z = at_standing (ap (expr_text arrays n) (sym (rolls-Number z)) ∙ fold-roll-Expr Side (expr_layer arrays n) _)
 
-  pub read_is : (a : Access) → expr_text arrays n (Read a) ≡ access_text arrays n a
-  read_is a = ap (expr_text arrays n) (sym (rolls-Read a)) ∙ fold-roll-Expr (List ℕ) (expr_layer arrays n) _
+  pub iter_is : (k : ℕ) → expr_text arrays n (Iter k) standing ≡ variable_text original (suc k)
+  iter_is k = at_standing (ap (expr_text arrays n) (sym (rolls-Iter k)) ∙ fold-roll-Expr Side (expr_layer arrays n) _)
 
-  pub neg_is : (x : Expr) → expr_text arrays n (Neg x) ≡ codes "-(" ++ expr_text arrays n x ++ codes ")"
-  neg_is x = ap (expr_text arrays n) (sym (rolls-Neg x)) ∙ fold-roll-Expr (List ℕ) (expr_layer arrays n) _
+  pub read_is : (a : Access) → expr_text arrays n (Read a) standing ≡ access_text arrays n a
+  read_is a = at_standing (ap (expr_text arrays n) (sym (rolls-Read a)) ∙ fold-roll-Expr Side (expr_layer arrays n) _)
 
-  pub add_is : (x y : Expr) → expr_text arrays n (Add x y) ≡ infix_text (expr_text arrays n x) (codes " + ") (expr_text arrays n y)
-  add_is x y = ap (expr_text arrays n) (sym (rolls-Add x y)) ∙ fold-roll-Expr (List ℕ) (expr_layer arrays n) _
+  pub neg_is : (x : Expr) → expr_text arrays n (Neg x) standing ≡ codes "-" ++ expr_text arrays n x Negated
+  neg_is x = at_standing (ap (expr_text arrays n) (sym (rolls-Neg x)) ∙ fold-roll-Expr Side (expr_layer arrays n) _)
 
-  pub sub_is : (x y : Expr) → expr_text arrays n (Sub x y) ≡ infix_text (expr_text arrays n x) (codes " - ") (expr_text arrays n y)
-  sub_is x y = ap (expr_text arrays n) (sym (rolls-Sub x y)) ∙ fold-roll-Expr (List ℕ) (expr_layer arrays n) _
+  pub add_is : (x y : Expr)
+      → expr_text arrays n (Add x y) standing
+      ≡ infix_text (encloses_sum standing) (expr_text arrays n x Sum) (codes " + ") (expr_text arrays n y Product)
+  add_is x y = at_standing (ap (expr_text arrays n) (sym (rolls-Add x y)) ∙ fold-roll-Expr Side (expr_layer arrays n) _)
 
-  pub mul_is : (x y : Expr) → expr_text arrays n (Mul x y) ≡ infix_text (expr_text arrays n x) (codes " * ") (expr_text arrays n y)
-  mul_is x y = ap (expr_text arrays n) (sym (rolls-Mul x y)) ∙ fold-roll-Expr (List ℕ) (expr_layer arrays n) _
+  pub sub_is : (x y : Expr)
+      → expr_text arrays n (Sub x y) standing
+      ≡ infix_text (encloses_sum standing) (expr_text arrays n x Sum) (codes " - ") (expr_text arrays n y Product)
+  sub_is x y = at_standing (ap (expr_text arrays n) (sym (rolls-Sub x y)) ∙ fold-roll-Expr Side (expr_layer arrays n) _)
+
+  pub mul_is : (x y : Expr)
+      → expr_text arrays n (Mul x y) standing
+      ≡ infix_text (encloses_product standing) (expr_text arrays n x Product) (codes " * ") (expr_text arrays n y Operand)
+  mul_is x y = at_standing (ap (expr_text arrays n) (sym (rolls-Mul x y)) ∙ fold-roll-Expr Side (expr_layer arrays n) _)
 
 module _ (arrays : List ArrayDecl) (behind : Bool) (level around : ℕ) where
   at_place : {f g : Printed} → f ≡ g → f behind level around ≡ g behind level around

@@ -1,5 +1,6 @@
--- Assignments for people: `A[i1][i2 - 1] = ((10 * i1) + B[(i2 + 1) mod 4])`. Operations stand in parentheses.
-use Rattle.std.specs.Prelude.{ℕ, zero, suc, ◌-◌, Bool, false, cond, not, ◌&&◌, ◌||◌, nat_eq, nat_lt, nat_le, List, [], ◌∷◌, ◌++◌, length, map, take, slice_index_or, codes}
+-- Assignments for people: `A[i1][i2 - 1] = 10 * i1 + B[(i2 + 1) mod 4]`. Right sides have the fewest parentheses with which sums and
+-- products are read from the left.
+use Rattle.std.specs.Prelude.{ℕ, zero, suc, ◌-◌, ℤ, pos, negsuc, Bool, true, false, cond, not, ◌&&◌, ◌||◌, nat_eq, nat_lt, nat_le, List, [], ◌∷◌, ◌++◌, length, map, take, slice_index_or, codes}
 use Rattle.std.specs.List.{flat_map, list_all}
 use Rattle.std.specs.Str.{bytes_eq}
 use Rattle.ch_nest.specs.declared.nest.Access.{Access}
@@ -12,6 +13,8 @@ use Rattle.ch_nest.specs.declared.nest.Sub as sub
 use Rattle.ch_print.specs.Instances.{buffer_text}
 use Rattle.ch_print.specs.Numbers.{integer_text, number_text}
 use Rattle.ch_code.specs.FormText.{form_text, original, variable_text}
+use Rattle.ch_code.specs.declared.bodies.Standing.{Standing}
+use Rattle.ch_code.specs.declared.bodies.Standing.TheVariants.{Sum, Product, Operand, Negated}
 
 abbrev pub is_digit : ℕ → Bool
 is_digit b = nat_le 48 b && nat_lt b 58
@@ -65,21 +68,56 @@ subs_text iterators (s ∷ ss) = flat_map (sub_text iterators) (s ∷ ss)
 unfoldable pub access_text : List ArrayDecl → ℕ → Access → List ℕ
 access_text arrays iterators a = array_text arrays a.array ++ subs_text iterators a.subs
 
-abbrev pub infix_text : List ℕ → List ℕ → List ℕ → List ℕ
-infix_text x operator y = codes "(" ++ x ++ operator ++ y ++ codes ")"
+abbrev pub opening : Bool → List ℕ
+opening true = codes "("
+opening false = []
 
--- one layer of a right side, with the texts of its parts in their place
-abbrev pub expr_layer : List ArrayDecl → ℕ → Expr-F (List ℕ) → List ℕ
-expr_layer arrays iterators (Expr-F.Number n) = integer_text n
-expr_layer arrays iterators (Expr-F.Iter k) = variable_text original (suc k)
-expr_layer arrays iterators (Expr-F.Read a) = access_text arrays iterators a
-expr_layer arrays iterators (Expr-F.Neg x) = codes "-(" ++ x ++ codes ")"
-expr_layer arrays iterators (Expr-F.Add x y) = infix_text x (codes " + ") y
-expr_layer arrays iterators (Expr-F.Sub x y) = infix_text x (codes " - ") y
-expr_layer arrays iterators (Expr-F.Mul x y) = infix_text x (codes " * ") y
+abbrev pub closing : Bool → List ℕ
+closing true = codes ")"
+closing false = []
 
-abbrev pub expr_text : List ArrayDecl → ℕ → Expr → List ℕ
-expr_text arrays iterators = fold-Expr (List ℕ) (expr_layer arrays iterators)
+-- a number where it stands so: behind a minus sign the digits of a number would be read as those of a negative one
+abbrev pub encloses_number : Standing → ℤ → Bool
+encloses_number Negated (pos n) = true
+encloses_number Negated (negsuc n) = false
+encloses_number Sum z = false
+encloses_number Product z = false
+encloses_number Operand z = false
+
+abbrev pub encloses_sum : Standing → Bool
+encloses_sum Sum = false
+encloses_sum Product = true
+encloses_sum Operand = true
+encloses_sum Negated = true
+
+abbrev pub encloses_product : Standing → Bool
+encloses_product Sum = false
+encloses_product Product = false
+encloses_product Operand = true
+encloses_product Negated = true
+
+abbrev pub operand_text : Bool → ℤ → List ℕ
+operand_text encloses z = opening encloses ++ integer_text z ++ closing encloses
+
+abbrev pub infix_text : Bool → List ℕ → List ℕ → List ℕ → List ℕ
+infix_text encloses x operator y = opening encloses ++ x ++ operator ++ y ++ closing encloses
+
+-- the text of a right side where it stands so
+abbrev pub Side : Type 0
+Side = Standing → List ℕ
+
+-- one layer of a right side, with its parts in their place
+abbrev pub expr_layer : List ArrayDecl → ℕ → Expr-F Side → Side
+expr_layer arrays iterators (Expr-F.Number z) standing = operand_text (encloses_number standing z) z
+expr_layer arrays iterators (Expr-F.Iter k) standing = variable_text original (suc k)
+expr_layer arrays iterators (Expr-F.Read a) standing = access_text arrays iterators a
+expr_layer arrays iterators (Expr-F.Neg x) standing = codes "-" ++ x Negated
+expr_layer arrays iterators (Expr-F.Add x y) standing = infix_text (encloses_sum standing) (x Sum) (codes " + ") (y Product)
+expr_layer arrays iterators (Expr-F.Sub x y) standing = infix_text (encloses_sum standing) (x Sum) (codes " - ") (y Product)
+expr_layer arrays iterators (Expr-F.Mul x y) standing = infix_text (encloses_product standing) (x Product) (codes " * ") (y Operand)
+
+abbrev pub expr_text : List ArrayDecl → ℕ → Expr → Side
+expr_text arrays iterators = fold-Expr Side (expr_layer arrays iterators)
 
 unfoldable pub body_text : List ArrayDecl → ℕ → Body → List ℕ
-body_text arrays iterators b = access_text arrays iterators b.write ++ codes " = " ++ expr_text arrays iterators b.right
+body_text arrays iterators b = access_text arrays iterators b.write ++ codes " = " ++ expr_text arrays iterators b.right Sum

@@ -1,6 +1,6 @@
 ghost use Rattle.std.specs.Prelude.{◌≡◌, ◌++◌, OnOk};
 ghost use Rattle.std.specs.List.{flat_map};
-ghost use Rattle.ch_code.specs.BodyText.{access_text, body_text, expr_text, modular_text, sub_text, subs_text};
+ghost use Rattle.ch_code.specs.BodyText.{access_text, body_text, closing, encloses_number, encloses_product, encloses_sum, expr_text, modular_text, opening, operand_text, sub_text, subs_text};
 ghost use Rattle.ch_code.specs.FormText.{form_text, original};
 
 use crate::forms::{ORIGINAL, put_form, put_variable};
@@ -64,40 +64,101 @@ fn put_access(
     put_all_subs(out, iterators, access.subs.as_slice())
 }
 
-/// Adds a right side over this many original iterators.
+/// Where in a text a right side stands: where a sum may stand, where a product may, where neither
+/// may, or behind a minus sign, where no number may either whose digits it would belong to.
+#[derive(Clone, Copy, Debug)]
+pub enum Standing {
+    Sum,
+    Product,
+    Operand,
+    Negated,
+}
+
+fn encloses_number(standing: Standing, number: i64) -> bool
+    ensures { result ≡ encloses_number standing number }
+{
+    match standing {
+        Standing::Negated => number >= 0,
+        Standing::Sum | Standing::Product | Standing::Operand => false,
+    }
+}
+
+fn encloses_sum(standing: Standing) -> bool
+    ensures { result ≡ encloses_sum standing }
+{
+    !matches!(standing, Standing::Sum)
+}
+
+fn encloses_product(standing: Standing) -> bool
+    ensures { result ≡ encloses_product standing }
+{
+    matches!(standing, Standing::Operand | Standing::Negated)
+}
+
+fn put_opening(out: &mut Text, encloses: bool) -> Result<(), AllocError>
+    ensures { OnOk result (out.new ≡ out.old ++ opening encloses) }
+{
+    if encloses { out.append(b"(") } else { Ok(()) }
+}
+
+fn put_closing(out: &mut Text, encloses: bool) -> Result<(), AllocError>
+    ensures { OnOk result (out.new ≡ out.old ++ closing encloses) }
+{
+    if encloses { out.append(b")") } else { Ok(()) }
+}
+
+/// Adds a number of a right side, between parentheses where they are needed.
+fn put_operand(out: &mut Text, encloses: bool, number: i64) -> Result<(), AllocError>
+    ensures { OnOk result (out.new ≡ out.old ++ operand_text encloses number) }
+{
+    put_opening(out, encloses)?;
+    put_integer(out, number)?;
+    put_closing(out, encloses)
+}
+
+/// Adds a right side over this many original iterators, where it stands so.
 #[tactic(auto, using(crate::proofs::Rolls::number_is, crate::proofs::Rolls::iter_is, crate::proofs::Rolls::read_is, crate::proofs::Rolls::neg_is, crate::proofs::Rolls::add_is, crate::proofs::Rolls::sub_is, crate::proofs::Rolls::mul_is))]
-fn put_expr(out: &mut Text, names: &Names, iterators: usize, expr: &Expr) -> Result<(), AllocError>
-    ensures { OnOk result (out.new ≡ out.old ++ expr_text names.now iterators expr.now) }
+pub(crate) fn put_expr(
+    out: &mut Text,
+    names: &Names,
+    iterators: usize,
+    expr: &Expr,
+    standing: Standing,
+) -> Result<(), AllocError>
+    ensures { OnOk result
+        (out.new ≡ out.old ++ expr_text names.now iterators expr.now standing) }
 {
     match expr {
-        Expr::Number(number) => put_integer(out, *number),
+        Expr::Number(number) => put_operand(out, encloses_number(standing, *number), *number),
         Expr::Iter(level) => put_variable(out, ORIGINAL, u64::from(*level) + 1),
         Expr::Read(access) => put_access(out, names, iterators, access),
         Expr::Neg(x) => {
-            out.append(b"-(")?;
-            put_expr(out, names, iterators, x.get())?;
-            out.append(b")")
+            out.append(b"-")?;
+            put_expr(out, names, iterators, x.get(), Standing::Negated)
         }
         Expr::Add(x, y) => {
-            out.append(b"(")?;
-            put_expr(out, names, iterators, x.get())?;
+            let encloses = encloses_sum(standing);
+            put_opening(out, encloses)?;
+            put_expr(out, names, iterators, x.get(), Standing::Sum)?;
             out.append(b" + ")?;
-            put_expr(out, names, iterators, y.get())?;
-            out.append(b")")
+            put_expr(out, names, iterators, y.get(), Standing::Product)?;
+            put_closing(out, encloses)
         }
         Expr::Sub(x, y) => {
-            out.append(b"(")?;
-            put_expr(out, names, iterators, x.get())?;
+            let encloses = encloses_sum(standing);
+            put_opening(out, encloses)?;
+            put_expr(out, names, iterators, x.get(), Standing::Sum)?;
             out.append(b" - ")?;
-            put_expr(out, names, iterators, y.get())?;
-            out.append(b")")
+            put_expr(out, names, iterators, y.get(), Standing::Product)?;
+            put_closing(out, encloses)
         }
         Expr::Mul(x, y) => {
-            out.append(b"(")?;
-            put_expr(out, names, iterators, x.get())?;
+            let encloses = encloses_product(standing);
+            put_opening(out, encloses)?;
+            put_expr(out, names, iterators, x.get(), Standing::Product)?;
             out.append(b" * ")?;
-            put_expr(out, names, iterators, y.get())?;
-            out.append(b")")
+            put_expr(out, names, iterators, y.get(), Standing::Operand)?;
+            put_closing(out, encloses)
         }
     }
 }
@@ -114,5 +175,5 @@ pub(crate) fn put_body(
 {
     put_access(out, names, iterators, &body.write)?;
     out.append(b" = ")?;
-    put_expr(out, names, iterators, &body.right)
+    put_expr(out, names, iterators, &body.right, Standing::Sum)
 }

@@ -1,9 +1,11 @@
+use crate::bodies::{Standing, put_expr};
+use crate::names::Names;
 use crate::print::text_of;
 use crate::{Bound, Code, Unit, code_text, texts_differ};
-use ch_affine::{Aff, Boxed, List, Range, System, Text};
+use ch_affine::{Aff, Boxed, List, System, Text};
 use ch_nest::{Access, ArrayDecl, Body, Expr, Sub};
 use ch_timed::Label;
-use std::alloc::Global;
+use std::alloc::{AllocError, Global};
 use std::test::Fail;
 
 fn form(alloc: Global, coefs: &[i64], constant: i64) -> Result<Aff, Fail> {
@@ -20,70 +22,11 @@ fn bounds(alloc: Global, coefs: &[i64], constant: i64, divisor: u32) -> Result<L
     Ok(bounds)
 }
 
-fn access(alloc: Global, array: u32, modulus: u32) -> Result<Access, Fail> {
-    let mut subs = List::new(alloc);
-    subs.push(Sub {
-        form: form(alloc, [0, 1].as_slice(), -1)?,
-        modulus,
-    })?;
-    Ok(Access { array, subs })
-}
-
-fn right(alloc: Global) -> Result<Expr, Fail> {
-    let ten = Boxed::new(alloc, Expr::Number(-10))?;
-    let iterator = Boxed::new(alloc, Expr::Iter(0))?;
-    let product = Boxed::new(alloc, Expr::Mul(ten, iterator))?;
-    let read = Boxed::new(alloc, Expr::Read(access(alloc, 1, 4)?))?;
-    Ok(Expr::Add(product, read))
-}
-
-fn body(alloc: Global) -> Result<Body, Fail> {
-    let write = access(alloc, 0, 0)?;
-    let right = right(alloc)?;
-    Ok(Body { write, right })
-}
-
-fn origin(alloc: Global) -> Result<List<Aff>, Fail> {
-    let mut origin = List::new(alloc);
-    origin.push(form(alloc, [1, 0].as_slice(), 0)?)?;
-    origin.push(form(alloc, [-1, 2].as_slice(), 0)?)?;
-    Ok(origin)
-}
-
-fn system(alloc: Global) -> Result<System, Fail> {
-    let mut rows = List::new(alloc);
-    rows.push(form(alloc, [1, 0, -3].as_slice(), 0)?)?;
-    let ranges = [
-        Range { low: 0, high: 3 },
-        Range { low: -1, high: 9 },
-        Range { low: 0, high: 1 },
-    ];
-    let boxes = List::from_slice(alloc, ranges.as_slice())?;
-    Ok(System::new(3, rows, boxes).ok_or("system")?)
-}
-
-fn arrays(alloc: Global) -> Result<List<ArrayDecl>, Fail> {
-    let name = Text::of(alloc, b"A")?;
-    let extents = List::from_slice(alloc, [2, 8].as_slice())?;
-    let mut arrays = List::new(alloc);
-    arrays.push(ArrayDecl { name, extents })?;
-    Ok(arrays)
-}
-
 fn temps(alloc: Global) -> Result<List<List<u32>>, Fail> {
     let mut temps = List::new(alloc);
     temps.push(List::from_slice(alloc, [4].as_slice())?)?;
     Ok(temps)
 }
-
-const EXPECTED: &[u8] = b"array A[2][8]\n\
-buffer T:0[4]\n\
-for x1 = max(0, ceil((-5) / 3)) to 3\n\
-    \x20 for x2 = ceil((x1 + 1) / 2) to -x1 + 9 {\n\
-    \x20   if 0 <= x1 <= 3, -1 <= x2 <= 9, some x3: 0 <= x3 <= 1 and x1 - 3*x3 >= 0\n\
-    \x20     S3(i1 = x1, i2 = -x1 + 2*x2) at 0 2: A[i2 - 1] = ((-10 * i1) + T:0[(i2 - 1) mod 4])\n\
-    \x20   S3(i1 = x1, i2 = -x1 + 2*x2) at 0 2: A[i2 - 1] = ((-10 * i1) + T:0[(i2 - 1) mod 4])\n\
-    \x20 }\n";
 
 /// A statement without iterators that writes 7 into cell 1 of an array.
 fn writes_seven(alloc: Global, array: u32) -> Result<Code, Fail> {
@@ -191,7 +134,7 @@ fn loop_of_moves(alloc: Global) -> Result<Code, Fail> {
 const MOVED: &[u8] = b"buffer T:0[4]\n\
 for x1 = of 1: 2*x1 + 1 to min(5, floor((7) / 2))\n\
     \x20 if true\n\
-    \x20   M4(i1 = x1) at 0 1: T:0[i1] = (-(T:0[]) - i1)\n";
+    \x20   M4(i1 = x1) at 0 1: T:0[i1] = -T:0[] - i1\n";
 
 #[test]
 fn prints_moves(rt: HostRuntime) -> Result<(), Fail> {
@@ -200,6 +143,50 @@ fn prints_moves(rt: HostRuntime) -> Result<(), Fail> {
     let temps = temps(alloc)?;
     let text = text_of(alloc, &root, &[], temps.as_slice())?;
     assert!(rt; text.is(MOVED));
+    Ok(())
+}
+
+fn sum(alloc: Global, left: Expr, right: Expr) -> Result<Expr, AllocError> {
+    Ok(Expr::Add(Boxed::new(alloc, left)?, Boxed::new(alloc, right)?))
+}
+
+fn difference(alloc: Global, left: Expr, right: Expr) -> Result<Expr, AllocError> {
+    Ok(Expr::Sub(Boxed::new(alloc, left)?, Boxed::new(alloc, right)?))
+}
+
+fn product(alloc: Global, left: Expr, right: Expr) -> Result<Expr, AllocError> {
+    Ok(Expr::Mul(Boxed::new(alloc, left)?, Boxed::new(alloc, right)?))
+}
+
+/// A right side whose every operation stands in another place of the text.
+fn nested(alloc: Global) -> Result<Expr, AllocError> {
+    let left = sum(
+        alloc,
+        sum(alloc, Expr::Iter(0), Expr::Number(1))?,
+        Expr::Iter(1),
+    )?;
+    let minus = Expr::Neg(Boxed::new(alloc, Expr::Number(3))?);
+    let right = product(alloc, Expr::Number(-2), Expr::Iter(0))?;
+    let right = product(alloc, Expr::Iter(1), right)?;
+    let both = product(alloc, left, minus)?;
+    difference(alloc, both, sum(alloc, right, Expr::Number(-4))?)
+}
+
+fn right_text(alloc: Global, right: &Expr) -> Result<Text, AllocError> {
+    let mut text = Text::new(alloc);
+    let names = Names::of(alloc, &[])?;
+    put_expr(&mut text, &names, 2, right, Standing::Sum)?;
+    Ok(text)
+}
+
+const NESTED: &[u8] = b"(i1 + 1 + i2) * -(3) - (i2 * (-2 * i1) + -4)";
+
+#[test]
+fn parentheses_stand_where_they_are_needed(rt: HostRuntime) -> Result<(), Fail> {
+    let alloc = rt.alloc();
+    let right = nested(alloc)?;
+    let text = right_text(alloc, &right)?;
+    assert!(rt; text.is(NESTED));
     Ok(())
 }
 

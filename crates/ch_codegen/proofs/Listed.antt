@@ -28,8 +28,8 @@ from_elements ps e i =
     let x = in_map (element_at p.0) (instances p.0) e p.1.1 in
     (p.0, (p.1.0, (x.0, (x.1.0, x.1.1))))
 
-pub all_listed : (ps : List Piece) (t : Traced) → AreApart ps → Lists [] ps t → t [] ≡ listed ps
-all_listed ps t apart a =
-    ascending_same vector_of (t []) (listed ps) (ascending (t []) (a.ascends [] tt)) (listed_ascends ps apart)
-    (λ e i. to_order vector_of (flat_map elements ps) e (to_elements ps e (a.only [] e tt i)))
-    (λ e i. a.each [] e tt (from_elements ps e (from_order vector_of (flat_map elements ps) e i)))
+pub all_listed : (P : List ℤ → Type 0) (ps : List Piece) (t : Traced) → AreApart ps → P [] → Lists P (IsAmong ps) t → t [] ≡ listed ps
+all_listed P ps t apart h a =
+    ascending_same vector_of (t []) (listed ps) (ascending (t []) (a.ascends [] h)) (listed_ascends ps apart)
+    (λ e i. to_order vector_of (flat_map elements ps) e (to_elements ps e (a.only [] e h i)))
+    (λ e i. a.each [] e h (from_elements ps e (from_order vector_of (flat_map elements ps) e i)))

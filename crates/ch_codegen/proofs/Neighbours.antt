@@ -58,12 +58,6 @@ pub systems_back : (ps qs : List Piece) → AreSystems (ps ++ qs) → AreSystems
 systems_back [] qs s = s
 systems_back (p ∷ ps) qs s = systems_back ps qs s.1
 
-pub together_front : (d : ℕ) (ps qs : List Piece) → Together d (ps ++ qs) → Together d ps
-together_front d ps qs t = record {
-  deep = λ p i. t.deep p (append_left ps qs p i);
-  same = λ p q i j. t.same p q (append_left ps qs p i) (append_left ps qs q j);
-}
-
 pub together_back : (d : ℕ) (ps qs : List Piece) → Together d (ps ++ qs) → Together d qs
 together_back d ps qs t = record {
   deep = λ p i. t.deep p (append_right ps qs p i);

@@ -1,19 +1,16 @@
 -- A row whose least value over a box is at least 0 holds everywhere in it.
-use Rattle.std.proofs.Common.{◌≡◌, refl, sym, ap, ap₂, ◌∙◌, ℕ, ◌+◌, ◌<◌, ℤ, pos, negsuc, ◌+ℤ◌, ◌*ℤ◌, ◌≤ℤ◌, ◌<ℤ◌, true, false, int_le, List, [], ◌∷◌, length, take, drop, get_or, arith}
+use Rattle.std.proofs.Common.{◌≡◌, sym, ap, ◌∙◌, ℕ, ◌+◌, ◌<◌, ℤ, pos, negsuc, ◌+ℤ◌, ◌*ℤ◌, ◌≤ℤ◌, true, int_le, List, [], ◌∷◌, length, take, drop, get_or, arith}
 use Rattle.std.proofs.lemmas.Bool.{and_from}
 use Rattle.std.proofs.lemmas.Int.{ints}
 use Rattle.std.proofs.lemmas.List.{drop_more}
-use Rattle.std.specs.List.{All}
-use Rattle.std.proofs.lemmas.List.Folds.{list_all_at, list_all_more}
+use Rattle.std.proofs.lemmas.List.Folds.{list_all_more}
 use Rattle.std.proofs.Math.IntN.{+ℤ_assoc}
 use Rattle.ch_affine.specs.declared.system.Range.{Range}
 use Rattle.ch_affine.specs.Affine.{dot, value}
 use Rattle.ch_affine.specs.Form.{Form}
 use Rattle.ch_poly.proofs.Cuts.{term_up, term_down}
 use Rattle.ch_poly.proofs.Firsts.{le_true}
-use Rattle.ch_affine.specs.Rows.{IsBox}
 use Rattle.ch_codegen.specs.Parts.{InRanges}
-use Rattle.ch_codegen.proofs.Inside.{HasNumbers, has_numbers}
 use Rattle.ch_codegen.specs.LeastValues.{least_term, least_sum, least_value, HoldEverywhere}
 
 least_term_le : (c : ℤ) (b : Range) (x : ℤ) → b.low ≤ℤ x → x ≤ℤ b.high → least_term c b ≤ℤ (c *ℤ x)
@@ -40,44 +37,3 @@ holds_more rows bs k row l e same low before xs h =
     let at : pos 0 ≤ℤ value row xs = omega (arith, ints, low, least_sum_le row.coefs bs xs same h) in
     let here : int_le (pos 0) (value (get_or rows k row) xs) ≡ true = ap (λ f. int_le (pos 0) (value f xs)) (sym e) ∙ le_true (value row xs) at in
     list_all_more (λ f. int_le (pos 0) (value f xs)) rows k row l ∙ and_from _ _ (before xs h) here
-
--- where a row comes to its least value over a box
-
-abbrev least_end : ℤ → Range → ℤ
-least_end (pos c) b = b.low
-least_end (negsuc c) b = b.high
-
-abbrev least_point : List ℤ → List Range → List ℤ
-least_point cs [] = []
-least_point [] (b ∷ bs) = b.low ∷ least_point [] bs
-least_point (c ∷ cs) (b ∷ bs) = least_end c b ∷ least_point cs bs
-
-end_inside : (c : ℤ) (b : Range) → b.low ≤ℤ b.high → (b.low ≤ℤ least_end c b) × (least_end c b ≤ℤ b.high)
-end_inside (pos c) b h = (omega (arith, ints), h)
-end_inside (negsuc c) b h = (h, omega (arith, ints))
-
-point_inside : (cs : List ℤ) (bs : List Range) → HasNumbers bs → InRanges bs (least_point cs bs)
-point_inside cs [] h = tt
-point_inside [] (b ∷ bs) h = (omega (arith, ints), h.0, point_inside [] bs h.1)
-point_inside (c ∷ cs) (b ∷ bs) h = let e = end_inside c b h.0 in (e.0, e.1, point_inside cs bs h.1)
-
-end_value : (c : ℤ) (b : Range) → c *ℤ least_end c b ≡ least_term c b
-end_value (pos c) b = refl
-end_value (negsuc c) b = refl
-
-point_value : (cs : List ℤ) (bs : List Range) → length cs ≡ length bs → dot cs (least_point cs bs) ≡ least_sum cs bs
-point_value [] bs e = refl
-point_value (c ∷ cs) [] e = absurd (omega arith)
-point_value (c ∷ cs) (b ∷ bs) e = ap₂ (λ x y. x +ℤ y) (end_value c b) (point_value cs bs (omega arith))
-
-le_false : (z : ℤ) → z <ℤ pos 0 → int_le (pos 0) z ≡ false
-le_false (pos n) h = absurd (omega (arith, ints, h))
-le_false (negsuc n) h = refl
-
-pub fails_there : (rows : List Form) (bs : List Range) (k : ℕ) (row : Form) → k < length rows → row ≡ get_or rows k row → length row.coefs ≡ length bs → All IsBox bs
-    → least_value row bs <ℤ pos 0 → HoldEverywhere rows bs → false ≡ true
-fails_there rows bs k row l e same boxes low all =
-    let xs = least_point row.coefs bs in
-    let is : value (get_or rows k row) xs ≡ least_value row bs = ap (λ f. value f xs) (sym e) ∙ ap (λ z. row.constant +ℤ z) (point_value row.coefs bs same) in
-    let there : int_le (pos 0) (value (get_or rows k row) xs) ≡ false = ap (int_le (pos 0)) is ∙ le_false (least_value row bs) low in
-    sym (list_all_at (λ f. int_le (pos 0) (value f xs)) rows k row l there) ∙ all xs (point_inside row.coefs bs (has_numbers bs boxes))

@@ -1,5 +1,5 @@
 -- What each kind of code tree executes, and loops between two numbers.
-use Rattle.std.proofs.Common.{◌≡◌, refl, sym, ap, ap₂, ◌∙◌, ℕ, zero, suc, ℤ, pos, negsuc, neg_ℤ, List, [], ◌∷◌, ◌++◌, map, replicate, arith, append-nil, append_assoc}
+use Rattle.std.proofs.Common.{◌≡◌, refl, sym, ap, ◌∙◌, ℕ, zero, suc, ℤ, pos, negsuc, neg_ℤ, List, [], ◌∷◌, ◌++◌, map, replicate, arith, append-nil, append_assoc}
 use Rattle.std.proofs.lemmas.Int.{ints}
 use Rattle.std.proofs.lemmas.List.{map-append}
 use Rattle.std.proofs.Math.IntN.{zero-*ℤ}
@@ -11,8 +11,7 @@ use Rattle.ch_code.specs.declared.code.Code.{Code}
 use Rattle.ch_code.specs.declared.code.Code.TheOpen.{Code-F}
 use Rattle.ch_code.specs.declared.code.Code.TheFolds.{fold-roll-Code}
 use Rattle.ch_code.specs.declared.code.Code.TheVariants.{Seq, Loop, Guard, rolls-Seq, rolls-Loop, rolls-Guard, rolls-Leaf}
-use Rattle.ch_code.specs.Trace.{Traced, guarded, high_of, low_of, one_by_one, trace, trace_step, turns_listed}
-use Rattle.ch_nest.specs.Run.{count}
+use Rattle.ch_code.specs.Trace.{Traced, guarded, high_of, low_of, one_by_one, trace, trace_step}
 use Rattle.ch_poly.specs.Points.{begins_some}
 use Rattle.ch_space.specs.declared.piece.Piece.{Piece}
 use Rattle.ch_space.specs.Pieces.{element_at}
@@ -36,15 +35,15 @@ trace_guard s inner = ap trace (sym (rolls-Guard s inner)) ∙ fold-roll-Code Tr
 pub trace_leaf : (p : Piece) (xs : List ℤ) → trace (leaf p) xs ≡ element_at p xs ∷ []
 trace_leaf p xs = ap (λ f. f xs) (ap trace (sym (rolls-Leaf p.label p.body p.origin p.places)) ∙ fold-roll-Code Traced trace_step _)
 
-pub trace_guarded : (p : Piece) (xs : List ℤ) → trace (guard p) xs ≡ guarded (begins_some p.system xs) (element_at p xs ∷ [])
-trace_guarded p xs = ap (λ f. f xs) (trace_guard p.system (leaf p)) ∙ ap (guarded (begins_some p.system xs)) (trace_leaf p xs)
+pub trace_guarded : (p : Piece) (inner : Code) (xs : List ℤ) → trace (guard p inner) xs ≡ guarded (begins_some p.system xs) (trace inner xs)
+trace_guarded p inner xs = ap (λ f. f xs) (trace_guard p.system inner)
 
 no_dot : (n : ℕ) (xs : List ℤ) → dot (replicate n (pos 0)) xs ≡ pos 0
 no_dot zero xs = refl
 no_dot (suc n) [] = refl
 no_dot (suc n) (x ∷ xs) = let a = zero-*ℤ x in let b = no_dot n xs in omega (arith, ints, a, b)
 
-bound_value : (n : ℕ) (z : ℤ) (xs : List ℤ) → value (bound n z).form xs ≡ z
+pub bound_value : (n : ℕ) (z : ℤ) (xs : List ℤ) → value (bound n z).form xs ≡ z
 bound_value n z xs = let a = no_dot n xs in omega (arith, ints, a)
 
 whole_quotient : (z : ℤ) → int_div_euclid z (pos 1) ≡ z
@@ -57,10 +56,8 @@ low_is n z xs = ap (λ v. neg_ℤ (int_div_euclid (neg_ℤ v) (pos 1))) (bound_v
 pub high_is : (n : ℕ) (z : ℤ) (xs : List ℤ) → high_of (bound n z ∷ []) xs ≡ z
 high_is n z xs = ap (λ v. int_div_euclid v (pos 1)) (bound_value n z xs) ∙ whole_quotient z
 
-pub trace_looped : (depth : ℕ) (low high : ℤ) (inner : Code) (xs : List ℤ) → trace (loop depth low high inner) xs ≡ looped low high (trace inner) xs
-trace_looped depth low high inner xs =
-    ap (λ f. f xs) (trace_loop _ (bound depth low ∷ []) (bound depth high ∷ []) inner)
-    ∙ ap₂ (λ l h. turns_listed (count l h) l (λ x. trace inner (xs ++ x ∷ []))) (low_is depth low xs) (high_is depth high xs)
+pub trace_looped : (depth : ℕ) (lows highs : List Bound) (inner : Code) (xs : List ℤ) → trace (loop depth lows highs inner) xs ≡ looped (low_of lows) (high_of highs) (trace inner) xs
+trace_looped depth lows highs inner xs = ap (λ f. f xs) (trace_loop _ lows highs inner)
 
 one_more : (fs : List Traced) (f : Traced) (xs : List ℤ) → one_by_one (fs ++ f ∷ []) xs ≡ one_by_one fs xs ++ f xs
 one_more [] f xs = append-nil (f xs)

@@ -1,5 +1,7 @@
 pub mod Parts
-pub mod Made
+pub mod Around
+pub mod Bounds
+pub mod Cuts
 pub mod LeastValues
+pub mod Made
 pub mod Formed
-pub mod SmallSpace

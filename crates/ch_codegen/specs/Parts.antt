@@ -33,15 +33,24 @@ abbrev pub Ascends : List Element → Type 0
 Ascends [] = Unit {0}
 Ascends (e ∷ es) = Each (IsEarlier e) es × Ascends es
 
--- At values of the loops around, exactly these elements are executed, in the order of their vectors.
-pub record Lists (ranges : List Range) (ps : List Piece) (executed : Traced) : Type 0 where
-  pub ascends : (xs : List ℤ) → InRanges ranges xs → Ascends (executed xs)
-  pub only : (xs : List ℤ) (e : Element) → InRanges ranges xs → In e (executed xs) → IsAmong ps xs e
-  pub each : (xs : List ℤ) (e : Element) → InRanges ranges xs → IsAmong ps xs e → In e (executed xs)
+-- At such values of the loops around, exactly such elements are executed, in the order of their vectors.
+pub record Lists (Around : List ℤ → Type 0) (Among : List ℤ → Element → Type 0) (executed : Traced) : Type 0 where
+  pub ascends : (xs : List ℤ) → Around xs → Ascends (executed xs)
+  pub only : (xs : List ℤ) (e : Element) → Around xs → In e (executed xs) → Among xs e
+  pub each : (xs : List ℤ) (e : Element) → Around xs → Among xs e → In e (executed xs)
+
+-- an end of a loop, from the values of the loops around
+abbrev pub End : Type 0
+End = List ℤ → ℤ
 
 -- a loop from low to high around what is executed
-abbrev pub looped : ℤ → ℤ → Traced → Traced
-looped low high executed xs = turns_listed (count low high) low (λ x. executed (xs ++ x ∷ []))
+abbrev pub looped : End → End → Traced → Traced
+looped low high executed xs = turns_listed (count (low xs) (high xs)) (low xs) (λ x. executed (xs ++ x ∷ []))
+
+-- the element is one of these pieces', at level values that begin with xs and go on with a number from low to high
+abbrev pub IsTurn : ℤ → ℤ → List Piece → List ℤ → Element → Type 0
+IsTurn low high ps xs e =
+    (p : Piece) × (In p ps × ((x : ℤ) × ((low ≤ℤ x) × ((x ≤ℤ high) × ((ys : List ℤ) × (In (xs ++ x ∷ ys) (instances p) × (element_at p (xs ++ x ∷ ys) ≡ e)))))))
 
 -- The pieces are at least so deep, and share the places and the loops down to that depth.
 pub record Together (depth : ℕ) (ps : List Piece) : Type 0 where

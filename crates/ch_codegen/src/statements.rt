@@ -1,15 +1,13 @@
 //! Statements, with a guard where they need one.
 
-ghost use Rattle.std.specs.Prelude.{◌≡◌, ◌≤◌, [], ◌∷◌, length, take, IfOk};
-ghost use Rattle.std.specs.Bool.{OnTrue};
-ghost use Rattle.ch_code.specs.Trace.{trace};
+ghost use Rattle.std.specs.Prelude.{◌≡◌, [], ◌∷◌, IfOk};
 ghost use Rattle.ch_space.specs.Keeps.{IsWhole};
 ghost use Rattle.ch_codegen.specs.Formed.{IsFormed};
-ghost use Rattle.ch_codegen.specs.Parts.{Lists};
+ghost use Rattle.ch_codegen.specs.Around.{Executes};
 ghost use Rattle.ch_codegen.specs.Made.{leaf, guard};
 
-use crate::everywhere::is_everywhere;
-use ch_affine::{Boxed, List, Range, copied_forms};
+use crate::plain::is_plain;
+use ch_affine::{Boxed, List, copied_forms};
 use ch_code::Code;
 use ch_space::Piece;
 use ch_space::copies::copied_body;
@@ -30,27 +28,32 @@ fn statement(alloc: Global, piece: &Piece) -> Result<Code, AllocError>
     })
 }
 
-/// The statement of a piece under the guard of its system.
-fn guarded_statement(alloc: Global, piece: &Piece) -> Result<Code, AllocError>
-    ensures { IfOk result (λ code. code ≡ guard piece.now) }
+/// Code under the guard of a piece's system.
+pub(crate) fn guard_over(alloc: Global, piece: &Piece, inner: Code) -> Result<Code, AllocError>
+    ensures { IfOk result (λ code. code ≡ guard piece.now inner) }
 {
     let system = piece.system.copied(alloc)?;
-    let inner = statement(alloc, piece)?;
     let inner = Boxed::new(alloc, inner)?;
     Ok(Code::Guard { system, inner })
 }
 
-/// The statement of a piece that ends inside these loops.
-pub(crate) fn end_code(alloc: Global, piece: &Piece, ranges: &[Range]) -> Result<Code, AllocError>
+/// The statement of a piece that ends inside `depth` loops, whose values follow its rows where that
+/// is `known`: under a guard where they don't tell that there is an instance.
+pub(crate) fn end_code(
+    alloc: Global,
+    piece: &Piece,
+    depth: usize,
+    known: bool,
+) -> Result<Code, AllocError>
     requires whole { IsWhole piece.now }
-    requires ends { piece.now.levels ≡ length ranges.now }
-    ensures lists { IfOk result (λ code. Lists ranges.now (piece.now ∷ []) (trace code)) }
-    ensures formed { IfOk result (λ code. IsFormed ranges.now (piece.now ∷ []) code) }
+    requires ends { piece.now.levels ≡ depth }
+    ensures lists { IfOk result (λ code. Executes depth known (piece.now ∷ []) code) }
+    ensures formed { IfOk result (λ code. IsFormed depth (piece.now ∷ []) code) }
 {
     piece.system.known();
-    if is_everywhere(piece, ranges) {
-        statement(alloc, piece)
-    } else {
-        guarded_statement(alloc, piece)
+    let inner = statement(alloc, piece)?;
+    if known && is_plain(piece) {
+        return Ok(inner);
     }
+    guard_over(alloc, piece, inner)
 }

@@ -26,7 +26,11 @@ fn number_bound(alloc: Global, depth: usize, number: i64) -> Result<Bound, Alloc
     Ok(Bound { form, divisor: 1 })
 }
 
-fn number_bounds(alloc: Global, depth: usize, number: i64) -> Result<List<Bound>, AllocError>
+pub(crate) fn number_bounds(
+    alloc: Global,
+    depth: usize,
+    number: i64,
+) -> Result<List<Bound>, AllocError>
     requires few { depth ≤ 4096 }
     requires small { IsAtMost (2 ^ 54) number }
     ensures { IfOk result (λ bounds. bounds ≡ bound depth number ∷ []) }
@@ -34,6 +38,26 @@ fn number_bounds(alloc: Global, depth: usize, number: i64) -> Result<List<Bound>
     let mut bounds = List::new(alloc);
     bounds.push(number_bound(alloc, depth, number)?)?;
     Ok(bounds)
+}
+
+/// A loop between these bounds, inside `depth` loops.
+pub(crate) fn loop_between(
+    alloc: Global,
+    depth: usize,
+    lows: List<Bound>,
+    highs: List<Bound>,
+    inner: Code,
+) -> Result<Code, AllocError>
+    requires few { depth ≤ 4096 }
+    ensures { IfOk result (λ code. code ≡ loop depth lows highs inner) }
+{
+    let inner = Boxed::new(alloc, inner)?;
+    Ok(Code::Loop {
+        level: depth as u32 + 1,
+        lows,
+        highs,
+        inner,
+    })
 }
 
 /// A loop over the numbers of a range, inside `depth` loops.
@@ -45,17 +69,12 @@ pub(crate) fn loop_over(
 ) -> Result<Code, AllocError>
     requires few { depth ≤ 4096 }
     requires range { IsBox range }
-    ensures { IfOk result (λ code. code ≡ loop depth range.low range.high inner) }
+    ensures { IfOk result (λ code. code
+        ≡ loop depth (bound depth range.low ∷ []) (bound depth range.high ∷ []) inner) }
 {
     let lows = number_bounds(alloc, depth, range.low)?;
     let highs = number_bounds(alloc, depth, range.high)?;
-    let inner = Boxed::new(alloc, inner)?;
-    Ok(Code::Loop {
-        level: depth as u32 + 1,
-        lows,
-        highs,
-        inner,
-    })
+    loop_between(alloc, depth, lows, highs, inner)
 }
 
 /// The parts one after another; a single part stands for itself.

@@ -7,8 +7,8 @@ use ch_poly::{Room, has_point};
 use ch_timed::{Element, Identity, Label};
 use std::alloc::{AllocError, Global};
 
-/// The most steps of a walk. Code runs over whole boxes, so that of a program with few instances
-/// may take too many.
+/// The most steps of a walk. The code of pieces with hidden values runs over whole boxes, and may
+/// take more.
 const MOST_STEPS: u32 = 100_000;
 
 /// What is left to do.
@@ -111,6 +111,7 @@ struct Walk<'a> {
     tasks: Vec<Task<'a>>,
     values: Vec<i64>,
     executed: usize,
+    turns: u32,
     fits: bool,
 }
 
@@ -174,29 +175,44 @@ impl<'a> Walk<'a> {
             self.tasks.push(Task::Turns { inner, value, high })?;
         }
         self.tasks.push(Task::Leave)?;
+        self.turns = self.turns.saturating_add(1);
         self.values.push(value)?;
         self.tasks.push(Task::Run(inner))?;
         Ok(())
     }
 }
 
-/// Whether the code executes the elements, in order. Code that takes too many steps isn't walked to
-/// its end.
-pub(crate) fn executes(
+/// What a walk over code found.
+#[derive(Clone, Copy)]
+pub(crate) struct Walked {
+    /// Whether the code executes the elements, in order. Code that takes too many steps isn't
+    /// walked to its end.
+    pub(crate) fits: bool,
+    /// How many turns its loops took.
+    pub(crate) turns: u32,
+}
+
+/// Walks the code beside the elements that it is to execute.
+pub(crate) fn walked(
     alloc: Global,
     unit: &Unit,
     elements: &[Element],
-) -> Result<bool, AllocError> {
+) -> Result<Walked, AllocError> {
     let mut walk = Walk {
         tasks: Vec::new(alloc),
         values: Vec::new(alloc),
         executed: 0,
+        turns: 0,
         fits: true,
     };
     walk.tasks.push(Task::Run(&unit.root))?;
     for _ in 0..MOST_STEPS {
         match walk.tasks.pop() {
-            None => return Ok(walk.fits && walk.executed == elements.len()),
+            None => {
+                let fits = walk.fits && walk.executed == elements.len();
+                let turns = walk.turns;
+                return Ok(Walked { fits, turns });
+            }
             Some(Task::Run(code)) => walk.run(alloc, code, elements)?,
             Some(Task::Turns { inner, value, high }) => walk.turn(inner, value, high)?,
             Some(Task::Leave) => {
@@ -204,5 +220,42 @@ pub(crate) fn executes(
             }
         }
     }
-    Ok(walk.fits)
+    Ok(Walked {
+        fits: walk.fits,
+        turns: walk.turns,
+    })
+}
+
+/// What stands in code.
+#[derive(Clone, Copy)]
+pub(crate) struct Parts {
+    pub(crate) loops: u32,
+    pub(crate) statements: u32,
+}
+
+/// Counts the loops and statements of code.
+pub(crate) fn parts_of(alloc: Global, root: &Code) -> Result<Parts, AllocError> {
+    let mut found = Parts {
+        loops: 0,
+        statements: 0,
+    };
+    let mut open = Vec::new(alloc);
+    open.push(root)?;
+    for _ in 0..MOST_STEPS {
+        match open.pop() {
+            None => break,
+            Some(Code::Seq(parts)) => {
+                for part in parts.as_slice() {
+                    open.push(part)?;
+                }
+            }
+            Some(Code::Loop { inner, .. }) => {
+                found.loops = found.loops.saturating_add(1);
+                open.push(inner.get())?;
+            }
+            Some(Code::Guard { inner, .. }) => open.push(inner.get())?,
+            Some(Code::Leaf { .. }) => found.statements = found.statements.saturating_add(1),
+        }
+    }
+    Ok(found)
 }

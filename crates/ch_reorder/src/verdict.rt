@@ -4,9 +4,10 @@ ghost use Rattle.ch_order.specs.Legal.{AreAmong};
 
 use crate::plain::is_moved;
 use crate::recipe::{Command, applied, parsed};
-use crate::trace::executes;
+use crate::trace::{parts_of, walked};
 use crate::walk::{agrees, elements};
 use ch_affine::Text;
+use ch_code::guards;
 use ch_codegen::generate;
 use ch_deck::{DeckError, Program, read_deck};
 use ch_depends::{Pair, pairs, reversed};
@@ -194,7 +195,7 @@ fn is_executed(
         return Ok(false);
     }
     let unit = generate(alloc, nest, space)?;
-    executes(alloc, &unit, elements)
+    Ok(walked(alloc, &unit, elements)?.fits)
 }
 
 /// Whether the new list is what the command's definition makes of the old one, its pieces have the
@@ -215,6 +216,30 @@ fn is_defined(
         return Ok(false);
     }
     is_executed(alloc, nest, new, &news)
+}
+
+/// What stands in the code of the space, and how many turns its loops take.
+fn code_text(alloc: Global, nest: &Nest, space: &Space) -> Result<Text, AllocError> {
+    if space.arrays as usize != nest.arrays.len() {
+        return disagreement(alloc);
+    }
+    let unit = generate(alloc, nest, space)?;
+    let list = elements(alloc, space)?;
+    let found = walked(alloc, &unit, &list)?;
+    if !found.fits {
+        return disagreement(alloc);
+    }
+    let parts = parts_of(alloc, &unit.root)?;
+    let mut out = Text::new(alloc);
+    out.append(b"code guards ")?;
+    put_number(&mut out, u64::from(guards(&unit)))?;
+    out.append(b" loops ")?;
+    put_number(&mut out, u64::from(parts.loops))?;
+    out.append(b" statements ")?;
+    put_number(&mut out, u64::from(parts.statements))?;
+    out.append(b" turns ")?;
+    put_number(&mut out, u64::from(found.turns))?;
+    Ok(out)
 }
 
 fn disagreement(alloc: Global) -> Result<Text, AllocError> {
@@ -261,6 +286,9 @@ fn judged(
     for (k, command) in recipe.split(';').enumerate() {
         if command == "counts" {
             return counts_text(alloc, &space);
+        }
+        if command == "code" {
+            return code_text(alloc, nest, &space);
         }
         if command == "accumulate" {
             asking.sums_are_free = true;
