@@ -193,7 +193,7 @@ pub(crate) struct Walked {
 }
 
 /// Walks the code beside the elements that it is to execute.
-pub(crate) fn walked(
+pub(crate) fn walk_over(
     alloc: Global,
     unit: &Unit,
     elements: &[Element],

@@ -4,7 +4,7 @@ ghost use Rattle.ch_order.specs.Legal.{AreAmong};
 
 use crate::plain::is_moved;
 use crate::recipe::{Command, applied, parsed};
-use crate::trace::{parts_of, walked};
+use crate::trace::{parts_of, walk_over};
 use crate::walk::{agrees, elements};
 use ch_affine::Text;
 use ch_code::guards;
@@ -195,7 +195,7 @@ fn is_executed(
         return Ok(false);
     }
     let unit = generate(alloc, nest, space)?;
-    Ok(walked(alloc, &unit, elements)?.fits)
+    Ok(walk_over(alloc, &unit, elements)?.fits)
 }
 
 /// Whether the new list is what the command's definition makes of the old one, its pieces have the
@@ -225,7 +225,7 @@ fn code_text(alloc: Global, nest: &Nest, space: &Space) -> Result<Text, AllocErr
     }
     let unit = generate(alloc, nest, space)?;
     let list = elements(alloc, space)?;
-    let found = walked(alloc, &unit, &list)?;
+    let found = walk_over(alloc, &unit, &list)?;
     if !found.fits {
         return disagreement(alloc);
     }
