@@ -4,7 +4,7 @@ ghost use Rattle.ch_order.specs.Legal.{AreAmong};
 
 use crate::plain::is_moved;
 use crate::recipe::{Command, applied, parsed};
-use crate::trace::{parts_of, walk_over};
+use crate::trace::{Parts, parts_of, walk_over};
 use crate::walk::{agrees, elements};
 use ch_affine::Text;
 use ch_code::guards;
@@ -230,15 +230,25 @@ fn code_text(alloc: Global, nest: &Nest, space: &Space) -> Result<Text, AllocErr
         return disagreement(alloc);
     }
     let parts = parts_of(alloc, &unit.root)?;
+    counted_text(alloc, guards(&unit), parts, found.turns)
+}
+
+/// How many guards, loops and statements stand in code, and how many turns its loops take.
+fn counted_text(
+    alloc: Global,
+    guards: u32,
+    parts: Parts,
+    turns: u32,
+) -> Result<Text, AllocError> {
     let mut out = Text::new(alloc);
     out.append(b"code guards ")?;
-    put_number(&mut out, u64::from(guards(&unit)))?;
+    put_number(&mut out, u64::from(guards))?;
     out.append(b" loops ")?;
     put_number(&mut out, u64::from(parts.loops))?;
     out.append(b" statements ")?;
     put_number(&mut out, u64::from(parts.statements))?;
     out.append(b" turns ")?;
-    put_number(&mut out, u64::from(found.turns))?;
+    put_number(&mut out, u64::from(turns))?;
     Ok(out)
 }
 
