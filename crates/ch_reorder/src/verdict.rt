@@ -234,12 +234,7 @@ fn code_text(alloc: Global, nest: &Nest, space: &Space) -> Result<Text, AllocErr
 }
 
 /// How many guards, loops and statements stand in code, and how many turns its loops take.
-fn counted_text(
-    alloc: Global,
-    guards: u32,
-    parts: Parts,
-    turns: u32,
-) -> Result<Text, AllocError> {
+fn counted_text(alloc: Global, guards: u32, parts: Parts, turns: u32) -> Result<Text, AllocError> {
     let mut out = Text::new(alloc);
     out.append(b"code guards ")?;
     put_number(&mut out, u64::from(guards))?;
