@@ -1,0 +1,13 @@
+pub mod Adding
+pub mod Targets
+pub mod Ranges
+pub mod Cells
+pub mod Pairs
+pub mod Used
+pub mod Widths
+pub mod Sources
+pub mod Spreads
+pub mod Works
+pub mod Causes
+pub mod Moved
+pub mod Labels
