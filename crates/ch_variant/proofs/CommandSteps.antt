@@ -21,8 +21,8 @@ use Rattle.ch_space.specs.declared.error.ShapeError.{ShapeError}
 use Rattle.ch_tile.specs.Tiled.{tile_cause, tiled}
 use Rattle.ch_timed.specs.declared.element.Element.{Element}
 use Rattle.ch_unroll.specs.Unrolled.{unroll_cause, unrolled}
-use Rattle.ch_variant.specs.Arguments.{number, numbers}
-use Rattle.ch_variant.specs.Commands.{IsStep, cause, changed, factor}
+use Rattle.ch_variant.specs.Arguments.{Scope, number, numbers}
+use Rattle.ch_variant.specs.Commands.{IsReordered, buffers, cause, changed, factor}
 
 -- what each of the calls tells: its cause, its list, and what becomes of the weight
 pub record Tells (p : Listed) (first : Option Shape) (list : List Element) (weight : ℕ) (r : Result Listed ShapeError) : Type 0 where
@@ -46,11 +46,12 @@ next_of (Err e) p first list weight t = tt
 next_of (Ok new) p first list weight t = same_parts new list p.arrays p.temps weight (p.commands + 1) t.list_is t.arrays t.temps t.weight_is t.commands
 
 -- where that is what the command's definitions say
-step_of : (values : List ℤ) (c : Command) (p : Listed) (r : Result Listed ShapeError) → Tells p (cause values c p) (changed values c p.list) (p.weight * factor values c) r
-    → IsStep values c p r
-step_of values c p r t = record {
+step_of : (here : Scope) (c : Command) (p : Listed) (r : Result Listed ShapeError) → buffers here c p ≡ p.temps → Tells p (cause here c p) (changed here c p) (p.weight * factor here c) r
+    → IsReordered here c p r
+step_of here c p r b t = record {
   first = t.cause;
-  follows = next_of r p (cause values c p) (changed values c p.list) (p.weight * factor values c) t;
+  follows = subst (λ ts. IfOk r (λ (new : Listed). new ≡ record { list = changed here c p; arrays = p.arrays; temps = ts; weight = p.weight * factor here c; commands = p.commands + 1 }))
+      (sym b) (next_of r p (cause here c p) (changed here c p) (p.weight * factor here c) t);
   kept = t.kept;
   no_others = t.no_others;
 }
@@ -58,101 +59,101 @@ step_of values c p r t = record {
 once : (n : ℕ) → n ≡ n * 1
 once n = omega arith
 
-pub permutes : (values : List ℤ) (s : Arg) (order : List Arg) (p : Listed) (r : Result Listed ShapeError) (n : ℤ) (ns : List ℤ)
-    → n ≡ number values s → ns ≡ numbers values order
-    → Tells p (permute_cause p.list n ns) (permuted p.list n ns) p.weight r → IsStep values (Permute s order) p r
-permutes values s order p r n ns e f t =
+pub permutes : (here : Scope) (s : Arg) (order : List Arg) (p : Listed) (r : Result Listed ShapeError) (n : ℤ) (ns : List ℤ)
+    → n ≡ number here.values s → ns ≡ numbers here.values order
+    → Tells p (permute_cause p.list n ns) (permuted p.list n ns) p.weight r → IsReordered here (Permute s order) p r
+permutes here s order p r n ns e f t =
     let T : ℤ → List ℤ → ℕ → Type 0 = λ x xs w. Tells p (permute_cause p.list x xs) (permuted p.list x xs) w r in
-    step_of values (Permute s order) p r
-    (subst (λ w. T (number values s) (numbers values order) w) (once p.weight)
-    (subst (λ xs. T (number values s) xs p.weight) f
+    step_of here (Permute s order) p r refl
+    (subst (λ w. T (number here.values s) (numbers here.values order) w) (once p.weight)
+    (subst (λ xs. T (number here.values s) xs p.weight) f
     (subst (λ x. T x ns p.weight) e t)))
 
-pub skews : (values : List ℤ) (ss : List Arg) (level : Arg) (amounts : List Arg) (p : Listed) (r : Result Listed ShapeError) (ns : List ℤ) (l : ℤ) (by : List ℤ)
-    → ns ≡ numbers values ss → l ≡ number values level → by ≡ numbers values amounts
-    → Tells p (skew_cause p.list p.weight ns l by) (skewed p.list ns l by) (p.weight * growth by) r → IsStep values (Skew ss level amounts) p r
-skews values ss level amounts p r ns l by e f g t =
+pub skews : (here : Scope) (ss : List Arg) (level : Arg) (amounts : List Arg) (p : Listed) (r : Result Listed ShapeError) (ns : List ℤ) (l : ℤ) (by : List ℤ)
+    → ns ≡ numbers here.values ss → l ≡ number here.values level → by ≡ numbers here.values amounts
+    → Tells p (skew_cause p.list p.weight ns l by) (skewed p.list ns l by) (p.weight * growth by) r → IsReordered here (Skew ss level amounts) p r
+skews here ss level amounts p r ns l by e f g t =
     let T : List ℤ → ℤ → List ℤ → Type 0 = λ xs y ys. Tells p (skew_cause p.list p.weight xs y ys) (skewed p.list xs y ys) (p.weight * growth ys) r in
-    step_of values (Skew ss level amounts) p r
-    (subst (λ ys. T (numbers values ss) (number values level) ys) g
-    (subst (λ y. T (numbers values ss) y by) f
+    step_of here (Skew ss level amounts) p r refl
+    (subst (λ ys. T (numbers here.values ss) (number here.values level) ys) g
+    (subst (λ y. T (numbers here.values ss) y by) f
     (subst (λ xs. T xs l by) e t)))
 
-pub shifts : (values : List ℤ) (ss : List Arg) (level amount : Arg) (p : Listed) (r : Result Listed ShapeError) (ns : List ℤ) (l by : ℤ)
-    → ns ≡ numbers values ss → l ≡ number values level → by ≡ number values amount
-    → Tells p (shift_cause p.list ns l by) (shifted p.list ns l by) p.weight r → IsStep values (Shift ss level amount) p r
-shifts values ss level amount p r ns l by e f g t =
+pub shifts : (here : Scope) (ss : List Arg) (level amount : Arg) (p : Listed) (r : Result Listed ShapeError) (ns : List ℤ) (l by : ℤ)
+    → ns ≡ numbers here.values ss → l ≡ number here.values level → by ≡ number here.values amount
+    → Tells p (shift_cause p.list ns l by) (shifted p.list ns l by) p.weight r → IsReordered here (Shift ss level amount) p r
+shifts here ss level amount p r ns l by e f g t =
     let T : List ℤ → ℤ → ℤ → ℕ → Type 0 = λ xs y z w. Tells p (shift_cause p.list xs y z) (shifted p.list xs y z) w r in
-    step_of values (Shift ss level amount) p r
-    (subst (λ w. T (numbers values ss) (number values level) (number values amount) w) (once p.weight)
-    (subst (λ z. T (numbers values ss) (number values level) z p.weight) g
-    (subst (λ y. T (numbers values ss) y by p.weight) f
+    step_of here (Shift ss level amount) p r refl
+    (subst (λ w. T (numbers here.values ss) (number here.values level) (number here.values amount) w) (once p.weight)
+    (subst (λ z. T (numbers here.values ss) (number here.values level) z p.weight) g
+    (subst (λ y. T (numbers here.values ss) y by p.weight) f
     (subst (λ xs. T xs l by p.weight) e t))))
 
-pub tiles : (values : List ℤ) (s level size outer : Arg) (p : Listed) (r : Result Listed ShapeError) (n l t o : ℤ)
-    → n ≡ number values s → l ≡ number values level → t ≡ number values size → o ≡ number values outer
-    → Tells p (tile_cause p.list n l t o) (tiled p.list n l t o) p.weight r → IsStep values (Tile s level size outer) p r
-tiles values s level size outer p r n l t o e f g h told =
+pub tiles : (here : Scope) (s level size outer : Arg) (p : Listed) (r : Result Listed ShapeError) (n l t o : ℤ)
+    → n ≡ number here.values s → l ≡ number here.values level → t ≡ number here.values size → o ≡ number here.values outer
+    → Tells p (tile_cause p.list n l t o) (tiled p.list n l t o) p.weight r → IsReordered here (Tile s level size outer) p r
+tiles here s level size outer p r n l t o e f g h told =
     let T : ℤ → ℤ → ℤ → ℤ → ℕ → Type 0 = λ x y z v w. Tells p (tile_cause p.list x y z v) (tiled p.list x y z v) w r in
-    step_of values (Tile s level size outer) p r
-    (subst (λ w. T (number values s) (number values level) (number values size) (number values outer) w) (once p.weight)
-    (subst (λ v. T (number values s) (number values level) (number values size) v p.weight) h
-    (subst (λ z. T (number values s) (number values level) z o p.weight) g
-    (subst (λ y. T (number values s) y t o p.weight) f
+    step_of here (Tile s level size outer) p r refl
+    (subst (λ w. T (number here.values s) (number here.values level) (number here.values size) (number here.values outer) w) (once p.weight)
+    (subst (λ v. T (number here.values s) (number here.values level) (number here.values size) v p.weight) h
+    (subst (λ z. T (number here.values s) (number here.values level) z o p.weight) g
+    (subst (λ y. T (number here.values s) y t o p.weight) f
     (subst (λ x. T x l t o p.weight) e told)))))
 
-pub unrolls : (values : List ℤ) (s level amount : Arg) (p : Listed) (r : Result Listed ShapeError) (n l u : ℤ)
-    → n ≡ number values s → l ≡ number values level → u ≡ number values amount
-    → Tells p (unroll_cause p.list p.weight n l u) (unrolled p.list n l u) (p.weight * natural u) r → IsStep values (Unroll s level amount) p r
-unrolls values s level amount p r n l u e f g t =
+pub unrolls : (here : Scope) (s level amount : Arg) (p : Listed) (r : Result Listed ShapeError) (n l u : ℤ)
+    → n ≡ number here.values s → l ≡ number here.values level → u ≡ number here.values amount
+    → Tells p (unroll_cause p.list p.weight n l u) (unrolled p.list n l u) (p.weight * natural u) r → IsReordered here (Unroll s level amount) p r
+unrolls here s level amount p r n l u e f g t =
     let T : ℤ → ℤ → ℤ → Type 0 = λ x y z. Tells p (unroll_cause p.list p.weight x y z) (unrolled p.list x y z) (p.weight * natural z) r in
-    step_of values (Unroll s level amount) p r
-    (subst (λ z. T (number values s) (number values level) z) g
-    (subst (λ y. T (number values s) y u) f
+    step_of here (Unroll s level amount) p r refl
+    (subst (λ z. T (number here.values s) (number here.values level) z) g
+    (subst (λ y. T (number here.values s) y u) f
     (subst (λ x. T x l u) e t)))
 
-pub splits : (values : List ℤ) (s level : Arg) (c : Cond) (p : Listed) (r : Result Listed ShapeError) (n l : ℤ) (f : Form)
-    → n ≡ number values s → l ≡ number values level → f ≡ condition values c
-    → Tells p (split_cause p.list n l f) (split p.list n l f) p.weight r → IsStep values (Split s level c) p r
-splits values s level c p r n l f d e g t =
+pub splits : (here : Scope) (s level : Arg) (c : Cond) (p : Listed) (r : Result Listed ShapeError) (n l : ℤ) (f : Form)
+    → n ≡ number here.values s → l ≡ number here.values level → f ≡ condition here.values c
+    → Tells p (split_cause p.list n l f) (split p.list n l f) p.weight r → IsReordered here (Split s level c) p r
+splits here s level c p r n l f d e g t =
     let T : ℤ → ℤ → Form → ℕ → Type 0 = λ x y z w. Tells p (split_cause p.list x y z) (split p.list x y z) w r in
-    step_of values (Split s level c) p r
-    (subst (λ w. T (number values s) (number values level) (condition values c) w) (once p.weight)
-    (subst (λ z. T (number values s) (number values level) z p.weight) g
-    (subst (λ y. T (number values s) y f p.weight) e
+    step_of here (Split s level c) p r refl
+    (subst (λ w. T (number here.values s) (number here.values level) (condition here.values c) w) (once p.weight)
+    (subst (λ z. T (number here.values s) (number here.values level) z p.weight) g
+    (subst (λ y. T (number here.values s) y f p.weight) e
     (subst (λ x. T x l f p.weight) d t))))
 
-pub peels : (values : List ℤ) (s level count : Arg) (p : Listed) (r : Result Listed ShapeError) (n l k : ℤ)
-    → n ≡ number values s → l ≡ number values level → k ≡ number values count
-    → Tells p (peel_cause p.list n l k) (peeled p.list n l k) p.weight r → IsStep values (Peel s level count) p r
-peels values s level count p r n l k e f g t =
+pub peels : (here : Scope) (s level count : Arg) (p : Listed) (r : Result Listed ShapeError) (n l k : ℤ)
+    → n ≡ number here.values s → l ≡ number here.values level → k ≡ number here.values count
+    → Tells p (peel_cause p.list n l k) (peeled p.list n l k) p.weight r → IsReordered here (Peel s level count) p r
+peels here s level count p r n l k e f g t =
     let T : ℤ → ℤ → ℤ → ℕ → Type 0 = λ x y z w. Tells p (peel_cause p.list x y z) (peeled p.list x y z) w r in
-    step_of values (Peel s level count) p r
-    (subst (λ w. T (number values s) (number values level) (number values count) w) (once p.weight)
-    (subst (λ z. T (number values s) (number values level) z p.weight) g
-    (subst (λ y. T (number values s) y k p.weight) f
+    step_of here (Peel s level count) p r refl
+    (subst (λ w. T (number here.values s) (number here.values level) (number here.values count) w) (once p.weight)
+    (subst (λ z. T (number here.values s) (number here.values level) z p.weight) g
+    (subst (λ y. T (number here.values s) y k p.weight) f
     (subst (λ x. T x l k p.weight) e t))))
 
-pub fuses : (values : List ℤ) (ss : List Arg) (level : Arg) (p : Listed) (r : Result Listed ShapeError) (ns : List ℤ) (l : ℤ)
-    → ns ≡ numbers values ss → l ≡ number values level
-    → Tells p (fuse_cause p.list ns l) (fused p.list ns l) p.weight r → IsStep values (Fuse ss level) p r
-fuses values ss level p r ns l e f t =
+pub fuses : (here : Scope) (ss : List Arg) (level : Arg) (p : Listed) (r : Result Listed ShapeError) (ns : List ℤ) (l : ℤ)
+    → ns ≡ numbers here.values ss → l ≡ number here.values level
+    → Tells p (fuse_cause p.list ns l) (fused p.list ns l) p.weight r → IsReordered here (Fuse ss level) p r
+fuses here ss level p r ns l e f t =
     let T : List ℤ → ℤ → ℕ → Type 0 = λ xs y w. Tells p (fuse_cause p.list xs y) (fused p.list xs y) w r in
-    step_of values (Fuse ss level) p r
-    (subst (λ w. T (numbers values ss) (number values level) w) (once p.weight)
-    (subst (λ y. T (numbers values ss) y p.weight) f
+    step_of here (Fuse ss level) p r refl
+    (subst (λ w. T (numbers here.values ss) (number here.values level) w) (once p.weight)
+    (subst (λ y. T (numbers here.values ss) y p.weight) f
     (subst (λ xs. T xs l p.weight) e t)))
 
-pub distributes : (values : List ℤ) (ss : List Arg) (level : Arg) (p : Listed) (r : Result Listed ShapeError) (ns : List ℤ) (l : ℤ)
-    → ns ≡ numbers values ss → l ≡ number values level
-    → Tells p (distribute_cause p.list ns l) (distributed p.list ns l) p.weight r → IsStep values (Distribute ss level) p r
-distributes values ss level p r ns l e f t =
+pub distributes : (here : Scope) (ss : List Arg) (level : Arg) (p : Listed) (r : Result Listed ShapeError) (ns : List ℤ) (l : ℤ)
+    → ns ≡ numbers here.values ss → l ≡ number here.values level
+    → Tells p (distribute_cause p.list ns l) (distributed p.list ns l) p.weight r → IsReordered here (Distribute ss level) p r
+distributes here ss level p r ns l e f t =
     let T : List ℤ → ℤ → ℕ → Type 0 = λ xs y w. Tells p (distribute_cause p.list xs y) (distributed p.list xs y) w r in
-    step_of values (Distribute ss level) p r
-    (subst (λ w. T (numbers values ss) (number values level) w) (once p.weight)
-    (subst (λ y. T (numbers values ss) y p.weight) f
+    step_of here (Distribute ss level) p r refl
+    (subst (λ w. T (numbers here.values ss) (number here.values level) w) (once p.weight)
+    (subst (λ y. T (numbers here.values ss) y p.weight) f
     (subst (λ xs. T xs l p.weight) e t)))
 
 -- a command that is written out, as an arm of a match tells it
-pub step_at : (values : List ℤ) (c d : Command) (p : Listed) (r : Result Listed ShapeError) → d ≡ c → IsStep values c p r → IsStep values d p r
-step_at values c d p r e s = subst (λ x. IsStep values x p r) (sym e) s
+pub step_at : (here : Scope) (c d : Command) (p : Listed) (r : Result Listed ShapeError) → d ≡ c → IsReordered here c p r → IsReordered here d p r
+step_at here c d p r e s = subst (λ x. IsReordered here x p r) (sym e) s

@@ -26,6 +26,7 @@ use Rattle.ch_timed.specs.declared.element.Identity.{Identity}
 use Rattle.ch_timed.specs.declared.element.Label.TheVariants.{Stmt}
 use Rattle.ch_timed.proofs.Rolls.{reads_add, reads_iter, reads_mul, reads_number, reads_read, start_loop, start_assign}
 use Rattle.ch_variant.specs.Applied.{and_then, applied, decided, from_step, one}
+use Rattle.ch_variant.specs.Arguments.{Scope, scope}
 use Rattle.ch_variant.specs.Commands.{cause, changed, next}
 use Rattle.ch_variant.proofs.Known.{reversed_known, sums_free}
 
@@ -77,26 +78,29 @@ no_reads = simp (reads_add, reads_mul, reads_number, reads_iter)
 abbrev tile : Command
 tile = Tile (arg.Number (pos 0)) (arg.Number (pos 2)) (arg.Param 0) (arg.Number (pos 1))
 
-the_tiles : changed (pos 2 ∷ []) tile rows ≡ two_tiles
+abbrev at_two : Scope
+at_two = scope triangle (pos 2 ∷ [])
+
+the_tiles : changed at_two tile (listed rows) ≡ two_tiles
 the_tiles = refl
 
-fine : cause (pos 2 ∷ []) tile (listed rows) ≡ None
+fine : cause at_two tile (listed rows) ≡ None
 fine = refl
 
 none_turned : reversed rows two_tiles ≡ None
 none_turned = reversed_known [] rows two_tiles (no_reads, (no_reads, (no_reads, (no_reads, (no_reads, (no_reads, tt))))))
 
 -- at T = 2 it is legal
-legal : applied triangle (tile ∷ []) (pos 2 ∷ []) ≡ Ok (next (pos 2 ∷ []) tile (listed rows))
+legal : applied triangle (tile ∷ []) (pos 2 ∷ []) ≡ Ok (next at_two tile (listed rows))
 legal =
-    ap (λ l. from_step (pos 2 ∷ []) false 1 (tile ∷ []) (listed l)) the_rows
-    ∙ ap (λ o. and_then (decided 1 None o (next (pos 2 ∷ []) tile (listed rows))) (from_step (pos 2 ∷ []) false 2 [])) none_turned
+    ap (λ l. from_step at_two false 1 (tile ∷ []) (listed l)) the_rows
+    ∙ ap (λ o. and_then (decided 1 None o (next at_two tile (listed rows))) (from_step at_two false 2 [])) none_turned
 
 -- at T = 0 there is no such tile, and 33 is too often to unroll
-no_tile : one (pos 0 ∷ []) false 1 tile (listed rows) ≡ Err (refusal.Shape 1 (record { code = 4; number = pos 0 }))
+no_tile : one (scope triangle (pos 0 ∷ [])) false 1 tile (listed rows) ≡ Err (refusal.Shape 1 (record { code = 4; number = pos 0 }))
 no_tile = refl
 
-no_amount : cause (pos 33 ∷ []) (Unroll (arg.Number (pos 0)) (arg.Number (pos 1)) (arg.Param 0)) (listed rows) ≡ Some (record { code = 4; number = pos 33 })
+no_amount : cause (scope triangle (pos 33 ∷ [])) (Unroll (arg.Number (pos 0)) (arg.Number (pos 1)) (arg.Param 0)) (listed rows) ≡ Some (record { code = 4; number = pos 33 })
 no_amount = refl
 
 -- ---- A[i][j] = A[i - 1][j + 1] + 1 at 1 <= i <= 2, 0 <= j <= 1: the loops may not be interchanged
@@ -134,7 +138,10 @@ reads_source = simp (reads_add, reads_read, reads_number)
 abbrev interchange : Command
 interchange = Permute (arg.Number (pos 0)) (arg.Number (pos 2) ∷ arg.Number (pos 1) ∷ [])
 
-the_interchange : changed [] interchange fronts ≡ interchanged
+abbrev as_it_waves : Scope
+as_it_waves = scope wave []
+
+the_interchange : changed as_it_waves interchange (listed fronts) ≡ interchanged
 the_interchange = refl
 
 abbrev instance : ℤ → ℤ → Identity
@@ -148,8 +155,8 @@ pair_turned = reversed_known (source ∷ []) fronts interchanged (reads_source, 
 illegal : applied wave (interchange ∷ tile ∷ []) []
     ≡ Err (refusal.Illegal 1 (instance (pos 1) (pos 1)) (instance (pos 2) (pos 0)) (record { array = 0; subs = pos 1 ∷ pos 1 ∷ [] }))
 illegal =
-    ap (λ l. from_step [] false 1 (interchange ∷ tile ∷ []) (listed l)) the_fronts
-    ∙ ap (λ o. and_then (decided 1 None o (next [] interchange (listed fronts))) (from_step [] false 2 (tile ∷ []))) pair_turned
+    ap (λ l. from_step as_it_waves false 1 (interchange ∷ tile ∷ []) (listed l)) the_fronts
+    ∙ ap (λ o. and_then (decided 1 None o (next as_it_waves interchange (listed fronts))) (from_step as_it_waves false 2 (tile ∷ []))) pair_turned
 
 -- ---- Z[0] = Z[0] + B[i][j] at 0 <= i, j <= 1: the loops may be interchanged where sums may be made in any order
 
@@ -183,13 +190,16 @@ turned_terms = turned_term (pos 0) (pos 0) ∷ turned_term (pos 1) (pos 0) ∷ t
 abbrev two_arrays : List Element → Listed
 two_arrays list = record { list = list; arrays = 2; temps = []; weight = 1; commands = 0 }
 
+abbrev as_it_sums : Scope
+as_it_sums = scope sum []
+
 the_terms : start sum ≡ terms
 the_terms = simp (start_loop, start_assign)
 
 reads_both : reads sum_body.right ≡ total ∷ added ∷ []
 reads_both = simp (reads_add, reads_read)
 
-the_turned_terms : changed [] interchange terms ≡ turned_terms
+the_turned_terms : changed as_it_sums interchange (two_arrays terms) ≡ turned_terms
 the_turned_terms = refl
 
 sum_turned : reversed terms turned_terms
@@ -200,8 +210,8 @@ sum_turned = reversed_known (total ∷ added ∷ []) terms turned_terms (reads_b
 sum_refused : applied sum (interchange ∷ []) []
     ≡ Err (refusal.Illegal 1 (instance (pos 0) (pos 1)) (instance (pos 1) (pos 0)) (record { array = 0; subs = pos 0 ∷ [] }))
 sum_refused =
-    ap (λ l. from_step [] false 1 (interchange ∷ []) (two_arrays l)) the_terms
-    ∙ ap (λ o. and_then (decided 1 None o (next [] interchange (two_arrays terms))) (from_step [] false 2 [])) sum_turned
+    ap (λ l. from_step as_it_sums false 1 (interchange ∷ []) (two_arrays l)) the_terms
+    ∙ ap (λ o. and_then (decided 1 None o (next as_it_sums interchange (two_arrays terms))) (from_step as_it_sums false 2 [])) sum_turned
 
 -- where it comes behind `accumulate` it is the second command, and is legal
 
@@ -220,7 +230,7 @@ adds =
 none_in_free_conflict : relaxed_reversed terms turned_terms ≡ None
 none_in_free_conflict = sums_free 0 terms turned_terms ((adds, refl), ((adds, refl), ((adds, refl), ((adds, refl), tt))))
 
-sum_legal : applied sum (Accumulate ∷ interchange ∷ []) [] ≡ Ok (next [] interchange (two_arrays terms))
+sum_legal : applied sum (Accumulate ∷ interchange ∷ []) [] ≡ Ok (next as_it_sums interchange (two_arrays terms))
 sum_legal =
-    ap (λ l. from_step [] false 1 (Accumulate ∷ interchange ∷ []) (two_arrays l)) the_terms
-    ∙ ap (λ o. and_then (decided 2 None o (next [] interchange (two_arrays terms))) (from_step [] true 3 [])) none_in_free_conflict
+    ap (λ l. from_step as_it_sums false 1 (Accumulate ∷ interchange ∷ []) (two_arrays l)) the_terms
+    ∙ ap (λ o. and_then (decided 2 None o (next as_it_sums interchange (two_arrays terms))) (from_step as_it_sums true 3 [])) none_in_free_conflict

@@ -11,8 +11,9 @@ use Rattle.ch_script.specs.declared.recipe.Command.{Command}
 use Rattle.ch_script.specs.declared.refusal.Refusal.{Refusal}
 use Rattle.ch_script.specs.declared.refusal.Refusal.TheVariants.{Illegal, Shape}
 use Rattle.ch_space.specs.Listed.{Listed}
-use Rattle.ch_variant.specs.Applied.{IsAnswer, and_then, decided, from_step, one, plain, turned}
-use Rattle.ch_variant.specs.Commands.{cause, changed, frees_sums, next}
+use Rattle.ch_variant.specs.Applied.{IsAnswer, and_then, decided, from_step, one, plain, reversal}
+use Rattle.ch_variant.specs.Arguments.{Scope, scope}
+use Rattle.ch_variant.specs.Commands.{cause, frees_sums, next}
 use Rattle.ch_variant.specs.Refusals.{IsLeastPair, PairIsLeast, StepIsLeast}
 use Rattle.ch_variant.specs.declared.error.ApplyError.{ApplyError}
 use Rattle.ch_variant.specs.declared.error.ApplyError.TheVariants.{Refused, Memory}
@@ -35,47 +36,47 @@ or_none : (a : Bool) → (a || false) ≡ a
 or_none true = refl
 or_none false = refl
 
-from_step-append : (values : List ℤ) (sums : Bool) (step : ℕ) (cs ds : List Command) (p : Listed)
-    → from_step values sums step (cs ++ ds) p
-    ≡ and_then (from_step values sums step cs p) (from_step values (sums || list_any frees_sums cs) (step + length cs) ds)
-from_step-append values sums step [] ds p =
+from_step-append : (here : Scope) (sums : Bool) (step : ℕ) (cs ds : List Command) (p : Listed)
+    → from_step here sums step (cs ++ ds) p
+    ≡ and_then (from_step here sums step cs p) (from_step here (sums || list_any frees_sums cs) (step + length cs) ds)
+from_step-append here sums step [] ds p =
     let e : step ≡ step + 0 = omega arith in
-    ap (λ n. from_step values sums n ds p) e ∙ ap (λ f. from_step values f (step + 0) ds p) (sym (or_none sums))
-from_step-append values sums step (c ∷ cs) ds p =
+    ap (λ n. from_step here sums n ds p) e ∙ ap (λ f. from_step here f (step + 0) ds p) (sym (or_none sums))
+from_step-append here sums step (c ∷ cs) ds p =
     let e : step + 1 + length cs ≡ step + suc (length cs) = omega arith in
     let later : Bool = sums || frees_sums c in
     let last : Bool = sums || list_any frees_sums (c ∷ cs) in
-    then_same (one values sums step c p) (from_step values later (step + 1) (cs ++ ds)) (from_step values later (step + 1) cs) (from_step values last (step + suc (length cs)) ds)
-    (λ q. from_step-append values later (step + 1) cs ds q
-    ∙ ap (λ n. and_then (from_step values later (step + 1) cs q) (from_step values (later || list_any frees_sums cs) n ds)) e
-    ∙ ap (λ f. and_then (from_step values later (step + 1) cs q) (from_step values f (step + suc (length cs)) ds)) (or_step sums (frees_sums c) (list_any frees_sums cs)))
+    then_same (one here sums step c p) (from_step here later (step + 1) (cs ++ ds)) (from_step here later (step + 1) cs) (from_step here last (step + suc (length cs)) ds)
+    (λ q. from_step-append here later (step + 1) cs ds q
+    ∙ ap (λ n. and_then (from_step here later (step + 1) cs q) (from_step here (later || list_any frees_sums cs) n ds)) e
+    ∙ ap (λ f. and_then (from_step here later (step + 1) cs q) (from_step here f (step + suc (length cs)) ds)) (or_step sums (frees_sums c) (list_any frees_sums cs)))
 
 split_at : (cs : List Command) (k : ℕ) (c : Command) → k < length cs → c ≡ get_or cs k c → cs ≡ take k cs ++ c ∷ drop (suc k) cs
 split_at cs k c l e =
     sym (take-append-drop k cs) ∙ ap (λ ds. take k cs ++ ds) (drop-cons cs k c l) ∙ ap (λ d. take k cs ++ d ∷ drop (suc k) cs) (sym e)
 
 -- the first k commands lead to this program, and one of them lets sums be made in any order, or none does
-pub record Reaches (values : List ℤ) (cs : List Command) (first : Listed) (k : ℕ) (sums : Bool) (p : Listed) : Type 0 where
+pub record Reaches (here : Scope) (cs : List Command) (first : Listed) (k : ℕ) (sums : Bool) (p : Listed) : Type 0 where
   pub within : k ≤ length cs
   pub freed : sums ≡ list_any frees_sums (take k cs)
-  pub is : from_step values false 1 (take k cs) first ≡ Ok p
+  pub is : from_step here false 1 (take k cs) first ≡ Ok p
 
-pub reaches_first : (values : List ℤ) (cs : List Command) (p : Listed) → Reaches values cs p 0 false p
-reaches_first values cs p = record { within = omega arith; freed = refl; is = refl }
+pub reaches_first : (here : Scope) (cs : List Command) (p : Listed) → Reaches here cs p 0 false p
+reaches_first here cs p = record { within = omega arith; freed = refl; is = refl }
 
 -- where they do, command k is the next one
-next_is : (values : List ℤ) (cs : List Command) (first p : Listed) (k : ℕ) (sums : Bool) (c : Command) (ds : List Command) → Reaches values cs first k sums p
-    → from_step values false 1 (take k cs ++ c ∷ ds) first ≡ and_then (one values sums (k + 1) c p) (from_step values (sums || frees_sums c) (k + 2) ds)
-next_is values cs first p k sums c ds r =
+next_is : (here : Scope) (cs : List Command) (first p : Listed) (k : ℕ) (sums : Bool) (c : Command) (ds : List Command) → Reaches here cs first k sums p
+    → from_step here false 1 (take k cs ++ c ∷ ds) first ≡ and_then (one here sums (k + 1) c p) (from_step here (sums || frees_sums c) (k + 2) ds)
+next_is here cs first p k sums c ds r =
     let n : length (take k cs) ≡ k = length-take-le k cs r.within in
     let e : 1 + length (take k cs) ≡ k + 1 = omega (arith, n) in
     let f : k + 1 + 1 ≡ k + 2 = omega arith in
     let flag : Bool = list_any frees_sums (take k cs) in
-    from_step-append values false 1 (take k cs) (c ∷ ds) first
-    ∙ ap (λ s. and_then s (from_step values flag (1 + length (take k cs)) (c ∷ ds))) r.is
-    ∙ ap (λ m. from_step values flag m (c ∷ ds) p) e
-    ∙ ap (λ t. from_step values t (k + 1) (c ∷ ds) p) (sym r.freed)
-    ∙ ap (λ m. and_then (one values sums (k + 1) c p) (from_step values (sums || frees_sums c) m ds)) f
+    from_step-append here false 1 (take k cs) (c ∷ ds) first
+    ∙ ap (λ s. and_then s (from_step here flag (1 + length (take k cs)) (c ∷ ds))) r.is
+    ∙ ap (λ m. from_step here flag m (c ∷ ds) p) e
+    ∙ ap (λ t. from_step here t (k + 1) (c ∷ ds) p) (sym r.freed)
+    ∙ ap (λ m. and_then (one here sums (k + 1) c p) (from_step here (sums || frees_sums c) m ds)) f
 
 more_commands : (cs : List Command) (k : ℕ) (c : Command) → k < length cs → c ≡ get_or cs k c → take (k + 1) cs ≡ take k cs ++ c ∷ []
 more_commands cs k c l e = take_more cs k c l ∙ ap (λ d. take k cs ++ d ∷ []) (sym e)
@@ -86,50 +87,50 @@ freed_more cs k c l e =
     ap (list_any frees_sums) (more_commands cs k c l e) ∙ list_any-append frees_sums (take k cs) (c ∷ [])
     ∙ ap (λ t. list_any frees_sums (take k cs) || t) (or_none (frees_sums c))
 
-reaches_next : (values : List ℤ) (cs : List Command) (first p q : Listed) (k : ℕ) (sums : Bool) (c : Command) → Reaches values cs first k sums p
-    → k < length cs → c ≡ get_or cs k c → one values sums (k + 1) c p ≡ Ok q → Reaches values cs first (k + 1) (sums || frees_sums c) q
-reaches_next values cs first p q k sums c r l e o = record {
+reaches_next : (here : Scope) (cs : List Command) (first p q : Listed) (k : ℕ) (sums : Bool) (c : Command) → Reaches here cs first k sums p
+    → k < length cs → c ≡ get_or cs k c → one here sums (k + 1) c p ≡ Ok q → Reaches here cs first (k + 1) (sums || frees_sums c) q
+reaches_next here cs first p q k sums c r l e o = record {
   within = omega arith;
   freed = ap (λ t. t || frees_sums c) r.freed ∙ sym (freed_more cs k c l e);
-  is = ap (λ ds. from_step values false 1 ds first) (more_commands cs k c l e)
-      ∙ next_is values cs first p k sums c [] r ∙ ap (λ s. and_then s (from_step values (sums || frees_sums c) (k + 2) [])) o;
+  is = ap (λ ds. from_step here false 1 ds first) (more_commands cs k c l e)
+      ∙ next_is here cs first p k sums c [] r ∙ ap (λ s. and_then s (from_step here (sums || frees_sums c) (k + 2) [])) o;
 }
 
 -- behind a command that gives another order
-pub reaches_more : (values : List ℤ) (cs : List Command) (first p q : Listed) (k : ℕ) (sums : Bool) (c : Command) → Reaches values cs first k sums p
-    → k < length cs → c ≡ get_or cs k c → frees_sums c ≡ false → one values sums (k + 1) c p ≡ Ok q → Reaches values cs first (k + 1) sums q
-reaches_more values cs first p q k sums c r l e m o =
-    subst (λ t. Reaches values cs first (k + 1) t q) (ap (λ t. sums || t) m ∙ or_none sums) (reaches_next values cs first p q k sums c r l e o)
+pub reaches_more : (here : Scope) (cs : List Command) (first p q : Listed) (k : ℕ) (sums : Bool) (c : Command) → Reaches here cs first k sums p
+    → k < length cs → c ≡ get_or cs k c → frees_sums c ≡ false → one here sums (k + 1) c p ≡ Ok q → Reaches here cs first (k + 1) sums q
+reaches_more here cs first p q k sums c r l e m o =
+    subst (λ t. Reaches here cs first (k + 1) t q) (ap (λ t. sums || t) m ∙ or_none sums) (reaches_next here cs first p q k sums c r l e o)
 
 -- behind one that lets sums be made in any order
-pub reaches_freed : (values : List ℤ) (cs : List Command) (first p : Listed) (k : ℕ) (sums : Bool) (c : Command) → Reaches values cs first k sums p
-    → k < length cs → c ≡ get_or cs k c → frees_sums c ≡ true → Reaches values cs first (k + 1) true p
-reaches_freed values cs first p k sums c r l e m =
-    subst (λ t. Reaches values cs first (k + 1) t p) (ap (λ t. sums || t) m ∙ or-true sums)
-    (reaches_next values cs first p p k sums c r l e (ap (λ t. if t then Ok p else judged) m))
+pub reaches_freed : (here : Scope) (cs : List Command) (first p : Listed) (k : ℕ) (sums : Bool) (c : Command) → Reaches here cs first k sums p
+    → k < length cs → c ≡ get_or cs k c → frees_sums c ≡ true → Reaches here cs first (k + 1) true p
+reaches_freed here cs first p k sums c r l e m =
+    subst (λ t. Reaches here cs first (k + 1) t p) (ap (λ t. sums || t) m ∙ or-true sums)
+    (reaches_next here cs first p p k sums c r l e (ap (λ t. if t then Ok p else judged) m))
   where
     judged : Result Listed Refusal
-    judged = decided (k + 1) (cause values c p) (turned sums p.list (changed values c p.list)) (next values c p)
+    judged = decided (k + 1) (cause here c p) (reversal here sums c p) (next here c p)
 
-stops : (values : List ℤ) (cs : List Command) (first p : Listed) (k : ℕ) (sums : Bool) (c : Command) (refused : Refusal) → Reaches values cs first k sums p
-    → k < length cs → c ≡ get_or cs k c → one values sums (k + 1) c p ≡ Err refused → from_step values false 1 cs first ≡ Err refused
-stops values cs first p k sums c refused r l e o =
-    ap (λ ds. from_step values false 1 ds first) (split_at cs k c l e)
-    ∙ next_is values cs first p k sums c (drop (suc k) cs) r ∙ ap (λ s. and_then s (from_step values (sums || frees_sums c) (k + 2) (drop (suc k) cs))) o
+stops : (here : Scope) (cs : List Command) (first p : Listed) (k : ℕ) (sums : Bool) (c : Command) (refused : Refusal) → Reaches here cs first k sums p
+    → k < length cs → c ≡ get_or cs k c → one here sums (k + 1) c p ≡ Err refused → from_step here false 1 cs first ≡ Err refused
+stops here cs first p k sums c refused r l e o =
+    ap (λ ds. from_step here false 1 ds first) (split_at cs k c l e)
+    ∙ next_is here cs first p k sums c (drop (suc k) cs) r ∙ ap (λ s. and_then s (from_step here (sums || frees_sums c) (k + 2) (drop (suc k) cs))) o
 
 -- a call's answer where the command that comes next is refused, or memory runs out
-pub answer_stops : (values : List ℤ) (cs : List Command) (first p : Listed) (k : ℕ) (sums : Bool) (c : Command) (e : ApplyError) → Reaches values cs first k sums p
-    → k < length cs → c ≡ get_or cs k c → IsAnswer {X = Listed} (Err e) (one values sums (k + 1) c p) → IsAnswer {X = Listed} (Err e) (from_step values false 1 cs first)
-answer_stops values cs first p k sums c (Refused refused) r l e o = stops values cs first p k sums c refused r l e o
-answer_stops values cs first p k sums c Memory r l e o = tt
+pub answer_stops : (here : Scope) (cs : List Command) (first p : Listed) (k : ℕ) (sums : Bool) (c : Command) (e : ApplyError) → Reaches here cs first k sums p
+    → k < length cs → c ≡ get_or cs k c → IsAnswer {X = Listed} (Err e) (one here sums (k + 1) c p) → IsAnswer {X = Listed} (Err e) (from_step here false 1 cs first)
+answer_stops here cs first p k sums c (Refused refused) r l e o = stops here cs first p k sums c refused r l e o
+answer_stops here cs first p k sums c Memory r l e o = tt
 
 -- and where all commands were gone through
-pub reached_all : (values : List ℤ) (cs : List Command) (first p : Listed) (k : ℕ) (sums : Bool) → Reaches values cs first k sums p → length cs ≤ k
-    → from_step values false 1 cs first ≡ Ok p
-reached_all values cs first p k sums r l = ap (λ ds. from_step values false 1 ds first) (sym (take_all k cs l)) ∙ r.is
+pub reached_all : (here : Scope) (cs : List Command) (first p : Listed) (k : ℕ) (sums : Bool) → Reaches here cs first k sums p → length cs ≤ k
+    → from_step here false 1 cs first ≡ Ok p
+reached_all here cs first p k sums r l = ap (λ ds. from_step here false 1 ds first) (sym (take_all k cs l)) ∙ r.is
 
 pub pair_stops : (nest : LoopNest) (values : List ℤ) (cs : List Command) (p : Listed) (k : ℕ) (sums : Bool) (c : Command) (e : ApplyError)
-    → Reaches values cs (plain nest) k sums p → k < length cs → c ≡ get_or cs k c → StepIsLeast values sums (k + 1) c p e → PairIsLeast nest cs values {X = Listed} (Err e)
+    → Reaches (scope nest values) cs (plain nest) k sums p → k < length cs → c ≡ get_or cs k c → StepIsLeast (scope nest values) sums (k + 1) c p e → PairIsLeast nest cs values {X = Listed} (Err e)
 pair_stops nest values cs p k sums c Memory r l e s = tt
 pair_stops nest values cs p k sums c (Refused (Shape n forbidden)) r l e s = tt
 pair_stops nest values cs p k sums c (Refused (Illegal n first second cell)) r l e s =
@@ -143,7 +144,7 @@ pair_stops nest values cs p k sums c (Refused (Illegal n first second cell)) r l
       number = s.0 ∙ o;
       program = p;
       reached = r.is;
-      pair = subst (λ t. IsLeastPair values t c p first second cell) r.freed s.1;
+      pair = subst (λ t. IsLeastPair (scope nest values) t c p first second cell) r.freed s.1;
     }
 
 -- ---- the exit of a `?`

@@ -15,7 +15,8 @@ use Rattle.ch_timed.specs.Start.{start}
 use Rattle.ch_timed.specs.Timed.{Step}
 use Rattle.ch_timed.specs.declared.element.Cell.{Cell}
 use Rattle.ch_timed.specs.declared.element.Element.{Element}
-use Rattle.ch_variant.specs.Commands.{cause, changed, frees_sums, next}
+use Rattle.ch_variant.specs.Arguments.{Scope, scope}
+use Rattle.ch_variant.specs.Commands.{cause, changed, copies, frees_sums, next}
 use Rattle.ch_variant.specs.declared.error.ApplyError.{ApplyError}
 use Rattle.ch_variant.specs.declared.error.ApplyError.TheVariants.{Refused, Memory}
 
@@ -31,21 +32,24 @@ abbrev pub turned : Bool → List Element → List Element → Option (Pair Step
 turned false old new = reversed old new
 turned true old new = relaxed_reversed old new
 
+-- The least pair that a command reverses. A copy reverses none: it is no other order, and keeps the meaning by what it is.
+abbrev pub reversal : Scope → Bool → Command → Listed → Option (Pair Step Cell)
+reversal here sums c p = if copies c then None else turned sums p.list (changed here c p)
+
 -- one command, which has this number in the recipe; sums may be made in any order, or not
-abbrev pub one : List ℤ → Bool → ℕ → Command → Listed → Result Listed Refusal
-one values sums step c p =
-    if frees_sums c then Ok p
-    else decided step (cause values c p) (turned sums p.list (changed values c p.list)) (next values c p)
+abbrev pub one : Scope → Bool → ℕ → Command → Listed → Result Listed Refusal
+one here sums step c p =
+    if frees_sums c then Ok p else decided step (cause here c p) (reversal here sums c p) (next here c p)
 
 abbrev pub and_then : Result Listed Refusal → (Listed → Result Listed Refusal) → Result Listed Refusal
 and_then (Ok p) more = more p
 and_then (Err refused) more = Err refused
 
 -- The commands one after another, the first of which has this number. Sums may be made in any order behind the first `accumulate`.
-abbrev pub from_step : List ℤ → Bool → ℕ → List Command → Listed → Result Listed Refusal
-from_step values sums step [] p = Ok p
-from_step values sums step (c ∷ cs) p =
-    and_then (one values sums step c p) (from_step values (sums || frees_sums c) (step + 1) cs)
+abbrev pub from_step : Scope → Bool → ℕ → List Command → Listed → Result Listed Refusal
+from_step here sums step [] p = Ok p
+from_step here sums step (c ∷ cs) p =
+    and_then (one here sums step c p) (from_step here (sums || frees_sums c) (step + 1) cs)
 
 -- the nest itself, before any command
 abbrev pub plain : LoopNest → Listed
@@ -53,7 +57,7 @@ plain nest = record { list = start nest; arrays = length nest.arrays; temps = []
 
 -- what the commands make of the nest, at these values of the parameters; steps count from 1
 abbrev pub applied : LoopNest → List Command → List ℤ → Result Listed Refusal
-applied nest commands values = from_step values false 1 commands (plain nest)
+applied nest commands values = from_step (scope nest values) false 1 commands (plain nest)
 
 -- a call answers this, unless memory runs out
 abbrev pub IsAnswer : {X : Type 0} → Result X ApplyError → Result X Refusal → Type 0

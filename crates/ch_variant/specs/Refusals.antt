@@ -1,5 +1,5 @@
 -- What a refusal for a reversed pair says of the program before the refused command and after it.
-use Rattle.std.specs.Prelude.{◌≡◌, ℕ, ◌+◌, ℤ, Bool, None, Result, Ok, Err, List, ◌∷◌, ◌++◌, length}
+use Rattle.std.specs.Prelude.{◌≡◌, ℕ, ◌+◌, ℤ, Bool, false, None, Result, Ok, Err, List, ◌∷◌, ◌++◌, length}
 use Rattle.std.specs.List.{list_any}
 use Rattle.ch_nest.specs.LoopNest.{LoopNest}
 use Rattle.ch_script.specs.declared.recipe.Command.{Command}
@@ -9,27 +9,29 @@ use Rattle.ch_timed.specs.declared.element.Cell.{Cell}
 use Rattle.ch_timed.specs.declared.element.Element.{Element}
 use Rattle.ch_timed.specs.declared.element.Identity.{Identity}
 use Rattle.ch_variant.specs.Applied.{applied}
-use Rattle.ch_variant.specs.Commands.{cause, changed, frees_sums}
+use Rattle.ch_variant.specs.Arguments.{Scope, scope}
+use Rattle.ch_variant.specs.Commands.{cause, changed, copies, frees_sums}
 use Rattle.ch_variant.specs.LeastPairs.{IsLeastTurned, must_keep}
 use Rattle.ch_variant.specs.declared.error.ApplyError.{ApplyError}
 use Rattle.ch_variant.specs.declared.error.ApplyError.TheVariants.{Refused, Memory}
 
--- A command has the pair of these identities, which must keep its order for this cell, the other way round, and no lesser pair; the
--- shape of the program forbids nothing.
-pub record IsLeastPair (values : List ℤ) (sums : Bool) (c : Command) (p : Listed) (first second : Identity) (cell : Cell) : Type 0 where
-  pub shape : cause values c p ≡ None
+-- A command that gives another order has the pair of these identities, which must keep its order for this cell, the other way round, and no
+-- lesser pair; the shape of the program forbids nothing.
+pub record IsLeastPair (here : Scope) (sums : Bool) (c : Command) (p : Listed) (first second : Identity) (cell : Cell) : Type 0 where
+  pub orders : copies c ≡ false
+  pub shape : cause here c p ≡ None
   pub before : Element
   pub behind : Element
   pub first_is : first ≡ before.identity
   pub second_is : second ≡ behind.identity
-  pub least : IsLeastTurned (must_keep sums) p.list (changed values c p.list) before behind cell
+  pub least : IsLeastTurned (must_keep sums) p.list (changed here c p) before behind cell
 
 -- of what a call answers to one command
-abbrev pub StepIsLeast : List ℤ → Bool → ℕ → Command → Listed → ApplyError → Type 0
-StepIsLeast values sums step c p Memory = Unit {0}
-StepIsLeast values sums step c p (Refused (Shape k forbidden)) = Unit {0}
-StepIsLeast values sums step c p (Refused (Illegal k first second cell)) =
-    (k ≡ step) × IsLeastPair values sums c p first second cell
+abbrev pub StepIsLeast : Scope → Bool → ℕ → Command → Listed → ApplyError → Type 0
+StepIsLeast here sums step c p Memory = Unit {0}
+StepIsLeast here sums step c p (Refused (Shape k forbidden)) = Unit {0}
+StepIsLeast here sums step c p (Refused (Illegal k first second cell)) =
+    (k ≡ step) × IsLeastPair here sums c p first second cell
 
 -- It is the command of this number that does so, to what the commands before it make of the nest. Sums may be made in any order where one
 -- of these is `accumulate`.
@@ -41,7 +43,7 @@ pub record IsIllegal (nest : LoopNest) (commands : List Command) (values : List 
   pub number : step ≡ length earlier + 1
   pub program : Listed
   pub reached : applied nest earlier values ≡ Ok program
-  pub pair : IsLeastPair values (list_any frees_sums earlier) command program first second cell
+  pub pair : IsLeastPair (scope nest values) (list_any frees_sums earlier) command program first second cell
 
 -- of a call's answer
 abbrev pub PairIsLeast : LoopNest → List Command → List ℤ → {X : Type 0} → Result X ApplyError → Type 0

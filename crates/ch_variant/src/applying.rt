@@ -1,7 +1,7 @@
 //! A recipe applied to a nest, command by command.
 
-ghost use Rattle.std.specs.Prelude.{◌≡◌, ◌+◌, ◌<◌, ◌≤◌, ◌^◌, false, length, IfErr, IfOk, IsTrue};
-ghost use Rattle.std.specs.List.{All, list_all};
+ghost use Rattle.std.specs.Prelude.{◌≡◌, ◌<◌, ◌^◌, false, length, IfErr, IfOk, IsTrue};
+ghost use Rattle.std.specs.List.{All};
 ghost use Rattle.ch_affine.specs.Affine.{IsAtMost};
 ghost use Rattle.ch_depends.specs.Depends.{pair_of};
 ghost use Rattle.ch_nest.specs.Sound.{is_sound};
@@ -10,12 +10,14 @@ ghost use Rattle.ch_script.specs.Recipes.{command_fits};
 ghost use Rattle.ch_script.specs.declared.refusal.Refusal.TheVariants.{Illegal};
 ghost use Rattle.ch_timed.specs.Timed.{is_well_formed};
 ghost use Rattle.ch_variant.specs.Applied.{IsAnswer, applied, forbidden_at, one, turned};
-ghost use Rattle.ch_variant.specs.Commands.{frees_sums, reorders};
+ghost use Rattle.ch_variant.specs.Arguments.{scope};
+ghost use Rattle.ch_variant.specs.Commands.{IsBehind, copies, frees_sums};
 ghost use Rattle.ch_variant.specs.Meaning.{Keeps, KeepsNest, RunsNest};
 ghost use Rattle.ch_variant.specs.Refusals.{PairIsLeast, StepIsLeast};
 ghost use Rattle.ch_variant.specs.declared.error.ApplyError.TheVariants.{Refused};
 
-use crate::commands::changed;
+use crate::arguments::Setting;
+use crate::commands::{copied, reordered};
 use crate::error::ApplyError;
 use ch_depends::{Pair, reversed};
 use ch_nest::Nest;
@@ -25,30 +27,11 @@ use ch_space::{ShapeError, Space, space_of};
 use ch_timed::Timed;
 use std::alloc::{AllocError, Global};
 
-/// Whether each command of a recipe is about the order of the statement instances alone: it gives
-/// them another one, or lets sums be made in any. A copy into a buffer isn't.
-pub fn only_reorders(recipe: &Recipe) -> bool
-    ensures { result ≡ list_all reorders recipe.now.commands }
-{
-    recipe.commands.as_slice().iter().all(reorders)
-}
-
-fn reorders(command: &Command) -> bool
-    ensures { result ≡ reorders command.now }
-{
-    match command {
-        Command::Permute { .. }
-        | Command::Skew { .. }
-        | Command::Shift { .. }
-        | Command::Tile { .. }
-        | Command::Unroll { .. }
-        | Command::Split { .. }
-        | Command::Peel { .. }
-        | Command::Fuse { .. }
-        | Command::Distribute { .. }
-        | Command::Accumulate => true,
-        Command::Datacopy { .. } => false,
-    }
+/// The number of a command, from 1 on, and whether sums may be made in any order there.
+#[derive(Clone, Copy, Debug)]
+struct Turn {
+    step: u32,
+    sums: bool,
 }
 
 /// Whether a command lets sums be made in any order from then on.
@@ -102,34 +85,68 @@ fn turned(alloc: Global, sums: bool, old: &Space, new: &Space) -> Result<Option<
 
 /// The program after the command of this number, which gives another order: its shape may forbid
 /// the command, or the least pair of statement instances that it would reverse does.
-fn one(
+fn reorder(
     alloc: Global,
     space: &Space,
-    values: &[i64],
-    sums: bool,
-    step: u32,
+    setting: Setting,
+    turn: Turn,
     command: &Command,
 ) -> Result<Space, ApplyError>
     requires few { space.now.commands < 32 }
-    requires reorders { IsTrue (reorders command.now) }
+    requires orders { copies command.now ≡ false }
     requires moves { frees_sums command.now ≡ false }
-    requires fits { IsTrue (command_fits (length values.now) command.now) }
-    requires small { All (IsAtMost (2 ^ 20)) values.now }
-    ensures answer { IsAnswer result (one values.now sums step command.now space.now) }
+    requires fits { IsTrue (command_fits (length setting.values.now) command.now) }
+    requires small { All (IsAtMost (2 ^ 20)) setting.values.now }
+    ensures answer { IsAnswer result (one (scope setting.nest.now setting.values.now) turn.sums
+        turn.step command.now space.now) }
     ensures keeps { IfOk result (λ new. Keeps space.now new) }
-    ensures arrays { IfOk result (λ new. new.arrays ≡ space.now.arrays) }
-    ensures counted { IfOk result (λ new. new.commands ≡ space.now.commands + 1) }
-    ensures least { IfErr result (StepIsLeast values.now sums step command.now space.now) }
+    ensures parts { IfOk result (IsBehind space.now) }
+    ensures least { IfErr result (StepIsLeast (scope setting.nest.now setting.values.now) turn.sums
+        turn.step command.now space.now) }
 {
-    let new = match changed(alloc, space, values, command) {
+    let new = match reordered(alloc, space, setting, command) {
         Ok(new) => new,
-        Err(error) => return Err(forbidden(step, error)),
+        Err(error) => return Err(forbidden(turn.step, error)),
     };
     space.known();
     new.known();
-    match turned(alloc, sums, space, &new)? {
+    match turned(alloc, turn.sums, space, &new)? {
         None => Ok(new),
-        Some(pair) => Err(illegal(step, pair)),
+        Some(pair) => Err(illegal(turn.step, pair)),
+    }
+}
+
+/// The program after the command of this number, which may be a copy: that keeps the meaning
+/// whatever depends on what, so that its shape alone may forbid it.
+fn one(
+    alloc: Global,
+    space: &Space,
+    setting: Setting,
+    turn: Turn,
+    command: &Command,
+) -> Result<Space, ApplyError>
+    requires few { space.now.commands < 32 }
+    requires buffers { length space.now.temps < 32 }
+    requires moves { frees_sums command.now ≡ false }
+    requires fits { IsTrue (command_fits (length setting.values.now) command.now) }
+    requires small { All (IsAtMost (2 ^ 20)) setting.values.now }
+    ensures answer { IsAnswer result (one (scope setting.nest.now setting.values.now) turn.sums
+        turn.step command.now space.now) }
+    ensures keeps { IfOk result (λ new. Keeps space.now new) }
+    ensures parts { IfOk result (IsBehind space.now) }
+    ensures least { IfErr result (StepIsLeast (scope setting.nest.now setting.values.now) turn.sums
+        turn.step command.now space.now) }
+{
+    match command {
+        Command::Datacopy {
+            statement,
+            level,
+            array,
+        } => match copied(alloc, space, setting, *statement, *level, array) {
+            Ok(new) => Ok(new),
+            Err(error) => Err(forbidden(turn.step, error)),
+        },
+        _ => reorder(alloc, space, setting, turn, command),
     }
 }
 
@@ -138,7 +155,8 @@ fn one(
 /// cause that the shape of that program gives, or else by the least pair of conflicting statement
 /// instances, in the order before the command, that it would execute the other way round: such an
 /// order would break a dependence (Wolf and Lam; Feautrier). Behind `accumulate` two additions to
-/// one array don't conflict (Pugh and Wonnacott), since a wrapping sum is the same in any order.
+/// one array don't conflict (Pugh and Wonnacott), since a wrapping sum is the same in any order. A
+/// copy into a buffer reverses nothing.
 ///
 /// There is one value, of magnitude at most 2^20, for each parameter. The conditions between the
 /// parameters aren't looked at.
@@ -151,7 +169,6 @@ pub fn apply(
     requires sound { IsTrue (is_sound nest.now) }
     requires params { length values.now ≡ length recipe.now.params }
     requires small { All (IsAtMost (2 ^ 20)) values.now }
-    requires reorders { IsTrue (list_all reorders recipe.now.commands) }
     ensures answer { IsAnswer result (applied nest.now recipe.now.commands values.now) }
     ensures least { PairIsLeast nest.now recipe.now.commands values.now result }
     ensures arrays { IfOk result (λ space. space.arrays ≡ length nest.now.arrays) }
@@ -160,13 +177,18 @@ pub fn apply(
     ensures runs { IfOk result (λ space. RunsNest nest.now space.list space.temps) }
 {
     recipe.known();
+    let setting = Setting { nest, values };
     let mut space = space_of(alloc, nest)?;
     let mut sums = false;
     for (k, command) in recipe.commands.as_slice().iter().enumerate() {
         if frees_sums(command) {
             sums = true;
         } else {
-            space = one(alloc, &space, values, sums, k as u32 + 1, command)?;
+            let turn = Turn {
+                step: k as u32 + 1,
+                sums,
+            };
+            space = one(alloc, &space, setting, turn, command)?;
         }
     }
     space.known();

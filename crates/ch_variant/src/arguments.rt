@@ -1,11 +1,32 @@
 //! The arguments of commands as numbers.
 
 ghost use Rattle.std.specs.Prelude.{◌≡◌, IfOk};
-ghost use Rattle.ch_variant.specs.Arguments.{number, numbers};
+ghost use Rattle.ch_variant.specs.Arguments.{array_of, number, numbers};
 
-use ch_affine::List;
+use ch_affine::{List, Text};
+use ch_nest::Nest;
 use ch_script::Arg;
 use std::alloc::{AllocError, Global};
+
+/// What the words of a command are read by: the nest, whose arrays have the names, and the values of
+/// the parameters.
+#[derive(Clone, Copy, Debug)]
+pub(crate) struct Setting<'a> {
+    pub(crate) nest: &'a Nest,
+    pub(crate) values: &'a [i64],
+}
+
+/// The number of the array of that name.
+pub(crate) fn array_of(nest: &Nest, name: &Text) -> Option<u32>
+    ensures { result ≡ array_of nest.now.arrays name.now }
+{
+    nest.known();
+    let mut arrays = nest.arrays.as_slice().iter();
+    let Some(k) = arrays.position(|a| a.name.as_bytes() == name.as_bytes()) else {
+        return None;
+    };
+    Some(k as u32)
+}
 
 /// The number, or the value of the parameter; 0 for one that isn't there.
 pub(crate) fn number(values: &[i64], arg: Arg) -> i64

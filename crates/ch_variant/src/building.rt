@@ -1,13 +1,11 @@
 //! Variants built by a recipe, and the original.
 
 ghost use Rattle.std.specs.Prelude.{◌≡◌, Some, None, length, IfOk, IsTrue};
-ghost use Rattle.std.specs.List.{list_all};
 ghost use Rattle.ch_grid.specs.Grid.{sizes};
 ghost use Rattle.ch_grid.specs.Points.{is_point};
 ghost use Rattle.ch_nest.specs.Sound.{is_sound};
 ghost use Rattle.ch_timed.specs.Timed.{is_well_formed};
 ghost use Rattle.ch_variant.specs.Applied.{IsAnswer};
-ghost use Rattle.ch_variant.specs.Commands.{reorders};
 ghost use Rattle.ch_variant.specs.Meaning.{KeepsNest};
 ghost use Rattle.ch_variant.specs.Points.{used_values};
 ghost use Rattle.ch_variant.specs.Refusals.{PairIsLeast};
@@ -40,7 +38,6 @@ fn space_at(
     requires sound { IsTrue (is_sound nest.now) }
     requires params { length grid.now.params ≡ length recipe.now.params }
     requires point { IsTrue (is_point (sizes grid.now.params) point.now) }
-    requires reorders { IsTrue (list_all reorders recipe.now.commands) }
     ensures answer { IsAnswer result
         (applied_at nest.now (origin_at recipe.now grid.now.params point.now)) }
     ensures least { PairIsLeast nest.now recipe.now.commands
@@ -86,7 +83,6 @@ pub fn build(
     requires sound { IsTrue (is_sound nest.now) }
     requires params { length grid.now.params ≡ length recipe.now.params }
     requires point { IsTrue (is_point (sizes grid.now.params) point.now) }
-    requires reorders { IsTrue (list_all reorders recipe.now.commands) }
     ensures answer { Refuses result
         (applied_at nest.now (origin_at recipe.now grid.now.params point.now)) }
     ensures least { PairIsLeast nest.now recipe.now.commands

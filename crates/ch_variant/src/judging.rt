@@ -1,11 +1,10 @@
 //! What is told of a recipe at values of its parameters.
 
 ghost use Rattle.std.specs.Prelude.{◌≡◌, ◌^◌, length, IsTrue};
-ghost use Rattle.std.specs.List.{All, list_all};
+ghost use Rattle.std.specs.List.{All};
 ghost use Rattle.ch_affine.specs.Affine.{IsAtMost};
 ghost use Rattle.ch_nest.specs.Sound.{is_sound};
 ghost use Rattle.ch_variant.specs.Applied.{IsAnswer};
-ghost use Rattle.ch_variant.specs.Commands.{reorders};
 ghost use Rattle.ch_variant.specs.Judgements.{judged, sizes_of};
 
 use crate::applying::apply;
@@ -34,7 +33,6 @@ pub fn judge(
     requires sound { IsTrue (is_sound nest.now) }
     requires params { length values.now ≡ length recipe.now.params }
     requires small { All (IsAtMost (2 ^ 20)) values.now }
-    requires reorders { IsTrue (list_all reorders recipe.now.commands) }
     ensures { IsAnswer result (judged sizes_of nest.now recipe.now.commands values.now) }
 {
     let space = apply(alloc, nest, recipe, values)?;

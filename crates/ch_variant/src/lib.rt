@@ -11,7 +11,7 @@ mod judging;
 mod point;
 mod variant;
 
-pub use applying::{apply, only_reorders};
+pub use applying::apply;
 pub use building::{build, original};
 pub use error::ApplyError;
 pub use judging::{Judgement, judge};
