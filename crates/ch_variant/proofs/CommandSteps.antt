@@ -1,12 +1,14 @@
 -- What the calls of the commands tell, at arguments that are the numbers of a recipe's command.
-use Rattle.std.proofs.Common.{◌≡◌, refl, sym, subst, arith, ℕ, ◌+◌, ◌*◌, ℤ, List, Option, Result, Ok, Err}
-use Rattle.std.specs.Prelude.{IfOk}
+use Rattle.std.proofs.Common.{◌≡◌, refl, sym, ◌∙◌, subst, arith, ℕ, ◌+◌, ◌*◌, ℤ, List, [], ◌∷◌, ◌++◌, length, Option, Some, None, Result, Ok, Err}
+use Rattle.std.specs.Prelude.{IfOk, IfSome}
 use Rattle.ch_affine.specs.Form.{Form}
+use Rattle.ch_copied.specs.Copied.{buffer_extents, datacopied}
 use Rattle.ch_cut.specs.Cut.{peel_cause, peeled, split, split_cause}
+use Rattle.ch_datacopy.specs.Causes.{copy_cause, not_there}
 use Rattle.ch_fuse.specs.Distributed.{distribute_cause, distributed}
 use Rattle.ch_fuse.specs.Fused.{fuse_cause, fused}
 use Rattle.ch_moved.specs.Arguments.{natural}
-use Rattle.ch_moved.specs.Causes.{Answers}
+use Rattle.ch_moved.specs.Causes.{Answers, first_of, no_level, no_piece}
 use Rattle.ch_nest.specs.declared.cause.Shape.{Shape}
 use Rattle.ch_order.specs.Legal.{AreAmong}
 use Rattle.ch_permute.specs.Permuted.{permute_cause, permuted}
@@ -14,15 +16,16 @@ use Rattle.ch_permute.specs.Raised.{growth, shift_cause, shifted, skew_cause, sk
 use Rattle.ch_script.specs.Values.{condition}
 use Rattle.ch_script.specs.declared.recipe.Arg.{Arg}
 use Rattle.ch_script.specs.declared.recipe.Command.{Command}
-use Rattle.ch_script.specs.declared.recipe.Command.TheVariants.{Permute, Skew, Shift, Tile, Unroll, Split, Peel, Fuse, Distribute}
+use Rattle.ch_script.specs.declared.recipe.Command.TheVariants.{Permute, Skew, Shift, Tile, Unroll, Split, Peel, Fuse, Distribute, Datacopy}
 use Rattle.ch_script.specs.declared.recipe.Cond.{Cond}
 use Rattle.ch_space.specs.Listed.{Listed}
 use Rattle.ch_space.specs.declared.error.ShapeError.{ShapeError}
 use Rattle.ch_tile.specs.Tiled.{tile_cause, tiled}
 use Rattle.ch_timed.specs.declared.element.Element.{Element}
 use Rattle.ch_unroll.specs.Unrolled.{unroll_cause, unrolled}
-use Rattle.ch_variant.specs.Arguments.{Scope, number, numbers}
-use Rattle.ch_variant.specs.Commands.{IsReordered, buffers, cause, changed, factor}
+use Rattle.ch_variant.specs.Arguments.{Scope, array_of, number, numbers}
+use Rattle.ch_variant.specs.Commands.{IsCopied, IsReordered, buffers, cause, changed, factor, next_buffer, with_buffer, with_copy}
+use Rattle.ch_variant.specs.Meaning.{Keeps}
 
 -- what each of the calls tells: its cause, its list, and what becomes of the weight
 pub record Tells (p : Listed) (first : Option Shape) (list : List Element) (weight : ℕ) (r : Result Listed ShapeError) : Type 0 where
@@ -153,6 +156,52 @@ distributes here ss level p r ns l e f t =
     (subst (λ w. T (numbers here.values ss) (number here.values level) w) (once p.weight)
     (subst (λ y. T (numbers here.values ss) y p.weight) f
     (subst (λ xs. T xs l p.weight) e t)))
+
+-- ---- a copy
+
+-- what its call tells
+pub record TellsCopy (p : Listed) (n l : ℤ) (array : Option ℕ) (r : Result Listed ShapeError) : Type 0 where
+  pub cause : Answers r (copy_cause p.list p.arrays (length p.temps) n l array)
+  pub list_is : IfOk r (λ (new : Listed). IfSome array (λ k. new.list ≡ datacopied p.list (natural n) (natural l) k (next_buffer p)))
+  pub temps_are : IfOk r (λ (new : Listed). IfSome array (λ k. new.temps ≡ p.temps ++ buffer_extents p.list (natural n) (natural l) k (next_buffer p) ∷ []))
+  pub arrays : IfOk r (λ (new : Listed). new.arrays ≡ p.arrays)
+  pub weight_is : IfOk r (λ (new : Listed). new.weight ≡ p.weight)
+  pub commands : IfOk r (λ (new : Listed). new.commands ≡ p.commands + 1)
+  pub keeps : IfOk r (λ (new : Listed). Keeps p new)
+
+-- an array that isn't declared is a cause
+undeclared : (a b : Option Shape) → first_of (a ∷ b ∷ not_there ∷ []) ≡ None → ⊥
+undeclared (Some x) b e = cc
+undeclared None (Some x) e = cc
+undeclared None None e = cc
+
+copied_to : (p new : Listed) (n l : ℤ) (array : Option ℕ) → TellsCopy p n l array (Ok new)
+    → new ≡ record { list = with_copy p (natural n) (natural l) array; arrays = p.arrays; temps = with_buffer p (natural n) (natural l) array; weight = p.weight * 1; commands = p.commands + 1 }
+copied_to p new n l None t = absurd (undeclared (no_piece p.list (n ∷ [])) (no_level p.list (n ∷ []) l) t.cause)
+copied_to p new n l (Some k) t =
+    same_parts new (with_copy p (natural n) (natural l) (Some k)) p.arrays (with_buffer p (natural n) (natural l) (Some k)) (p.weight * 1) (p.commands + 1)
+    t.list_is t.arrays t.temps_are (t.weight_is ∙ once p.weight) t.commands
+
+copy_follows : (p : Listed) (n l : ℤ) (array : Option ℕ) (r : Result Listed ShapeError) → TellsCopy p n l array r
+    → IfOk r (λ new. new ≡ record { list = with_copy p (natural n) (natural l) array; arrays = p.arrays; temps = with_buffer p (natural n) (natural l) array; weight = p.weight * 1; commands = p.commands + 1 })
+copy_follows p n l array (Ok new) t = copied_to p new n l array t
+copy_follows p n l array (Err e) t = tt
+
+copy_is : (here : Scope) (s level : Arg) (name : List ℕ) (p : Listed) (r : Result Listed ShapeError)
+    → TellsCopy p (number here.values s) (number here.values level) (array_of here.arrays name) r → IsCopied here (Datacopy s level name) p r
+copy_is here s level name p r t = record {
+  first = t.cause;
+  follows = copy_follows p (number here.values s) (number here.values level) (array_of here.arrays name) r t;
+  keeps = t.keeps;
+}
+
+pub copies_to : (here : Scope) (s level : Arg) (name : List ℕ) (p : Listed) (r : Result Listed ShapeError) (n l : ℤ) (array : Option ℕ)
+    → n ≡ number here.values s → l ≡ number here.values level → array ≡ array_of here.arrays name → TellsCopy p n l array r → IsCopied here (Datacopy s level name) p r
+copies_to here s level name p r n l array e f g t =
+    copy_is here s level name p r
+    (subst (λ a. TellsCopy p (number here.values s) (number here.values level) a r) g
+    (subst (λ y. TellsCopy p (number here.values s) y array r) f
+    (subst (λ x. TellsCopy p x l array r) e t)))
 
 -- a command that is written out, as an arm of a match tells it
 pub step_at : (here : Scope) (c d : Command) (p : Listed) (r : Result Listed ShapeError) → d ≡ c → IsReordered here c p r → IsReordered here d p r

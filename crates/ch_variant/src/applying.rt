@@ -88,20 +88,20 @@ fn turned(alloc: Global, sums: bool, old: &Space, new: &Space) -> Result<Option<
 fn reorder(
     alloc: Global,
     space: &Space,
-    setting: Setting,
+    setting: &Setting,
     turn: Turn,
     command: &Command,
 ) -> Result<Space, ApplyError>
     requires few { space.now.commands < 32 }
     requires orders { copies command.now ≡ false }
     requires moves { frees_sums command.now ≡ false }
-    requires fits { IsTrue (command_fits (length setting.values.now) command.now) }
-    requires small { All (IsAtMost (2 ^ 20)) setting.values.now }
-    ensures answer { IsAnswer result (one (scope setting.nest.now setting.values.now) turn.sums
+    requires fits { IsTrue (command_fits (length setting.now.values.now) command.now) }
+    requires small { All (IsAtMost (2 ^ 20)) setting.now.values.now }
+    ensures answer { IsAnswer result (one (scope setting.now.nest.now setting.now.values.now) turn.sums
         turn.step command.now space.now) }
     ensures keeps { IfOk result (λ new. Keeps space.now new) }
     ensures parts { IfOk result (IsBehind space.now) }
-    ensures least { IfErr result (StepIsLeast (scope setting.nest.now setting.values.now) turn.sums
+    ensures least { IfErr result (StepIsLeast (scope setting.now.nest.now setting.now.values.now) turn.sums
         turn.step command.now space.now) }
 {
     let new = match reordered(alloc, space, setting, command) {
@@ -121,20 +121,20 @@ fn reorder(
 fn one(
     alloc: Global,
     space: &Space,
-    setting: Setting,
+    setting: &Setting,
     turn: Turn,
     command: &Command,
 ) -> Result<Space, ApplyError>
     requires few { space.now.commands < 32 }
     requires buffers { length space.now.temps < 32 }
     requires moves { frees_sums command.now ≡ false }
-    requires fits { IsTrue (command_fits (length setting.values.now) command.now) }
-    requires small { All (IsAtMost (2 ^ 20)) setting.values.now }
-    ensures answer { IsAnswer result (one (scope setting.nest.now setting.values.now) turn.sums
+    requires fits { IsTrue (command_fits (length setting.now.values.now) command.now) }
+    requires small { All (IsAtMost (2 ^ 20)) setting.now.values.now }
+    ensures answer { IsAnswer result (one (scope setting.now.nest.now setting.now.values.now) turn.sums
         turn.step command.now space.now) }
     ensures keeps { IfOk result (λ new. Keeps space.now new) }
     ensures parts { IfOk result (IsBehind space.now) }
-    ensures least { IfErr result (StepIsLeast (scope setting.nest.now setting.values.now) turn.sums
+    ensures least { IfErr result (StepIsLeast (scope setting.now.nest.now setting.now.values.now) turn.sums
         turn.step command.now space.now) }
 {
     match command {
@@ -188,7 +188,7 @@ pub fn apply(
                 step: k as u32 + 1,
                 sums,
             };
-            space = one(alloc, &space, setting, turn, command)?;
+            space = one(alloc, &space, &setting, turn, command)?;
         }
     }
     space.known();

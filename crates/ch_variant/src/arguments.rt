@@ -1,10 +1,10 @@
 //! The arguments of commands as numbers.
 
-ghost use Rattle.std.specs.Prelude.{◌≡◌, IfOk};
+ghost use Rattle.std.specs.Prelude.{◌≡◌, ◌<◌, length, IfOk, IfSome};
 ghost use Rattle.ch_variant.specs.Arguments.{array_of, number, numbers};
 
 use ch_affine::{List, Text};
-use ch_nest::Nest;
+use ch_nest::{ArrayDecl, Nest};
 use ch_script::Arg;
 use std::alloc::{AllocError, Global};
 
@@ -16,16 +16,22 @@ pub(crate) struct Setting<'a> {
     pub(crate) values: &'a [i64],
 }
 
-/// The number of the array of that name.
+fn find_array(arrays: &[ArrayDecl], name: &[u8]) -> Option<usize>
+    ensures exact { result ≡ array_of arrays.now name.now }
+    ensures inside { IfSome result (λ k. k < length arrays.now) }
+{
+    arrays.iter().position(|a| a.name.as_bytes() == name)
+}
+
+/// The number of the nest's array of that name.
 pub(crate) fn array_of(nest: &Nest, name: &Text) -> Option<u32>
     ensures { result ≡ array_of nest.now.arrays name.now }
 {
     nest.known();
-    let mut arrays = nest.arrays.as_slice().iter();
-    let Some(k) = arrays.position(|a| a.name.as_bytes() == name.as_bytes()) else {
-        return None;
-    };
-    Some(k as u32)
+    match find_array(nest.arrays.as_slice(), name.as_bytes()) {
+        None => None,
+        Some(k) => Some(k as u32),
+    }
 }
 
 /// The number, or the value of the parameter; 0 for one that isn't there.

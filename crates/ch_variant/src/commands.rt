@@ -26,27 +26,32 @@ use std::alloc::Global;
 fn permuted(
     alloc: Global,
     space: &Space,
-    setting: Setting,
+    setting: &Setting,
     statement: Arg,
     order: &[Arg],
 ) -> Result<Space, ShapeError>
     requires { space.now.commands < 32 }
-    ensures { IsReordered (scope setting.nest.now setting.values.now) (Permute statement order.now) space.now result }
+    ensures { IsReordered (scope setting.now.nest.now setting.now.values.now) (Permute statement order.now) space.now result }
 {
     let order = numbers(alloc, setting.values, order)?;
-    permute(alloc, space, number(setting.values, statement), order.as_slice())
+    permute(
+        alloc,
+        space,
+        number(setting.values, statement),
+        order.as_slice(),
+    )
 }
 
 fn skewed(
     alloc: Global,
     space: &Space,
-    setting: Setting,
+    setting: &Setting,
     statements: &[Arg],
     level: Arg,
     amounts: &[Arg],
 ) -> Result<Space, ShapeError>
     requires { space.now.commands < 32 }
-    ensures { IsReordered (scope setting.nest.now setting.values.now) (Skew statements.now level amounts.now) space.now result }
+    ensures { IsReordered (scope setting.now.nest.now setting.now.values.now) (Skew statements.now level amounts.now) space.now result }
 {
     let pieces = numbers(alloc, setting.values, statements)?;
     let amounts = numbers(alloc, setting.values, amounts)?;
@@ -57,13 +62,13 @@ fn skewed(
 fn shifted(
     alloc: Global,
     space: &Space,
-    setting: Setting,
+    setting: &Setting,
     statements: &[Arg],
     level: Arg,
     amount: Arg,
 ) -> Result<Space, ShapeError>
     requires { space.now.commands < 32 }
-    ensures { IsReordered (scope setting.nest.now setting.values.now) (Shift statements.now level amount) space.now result }
+    ensures { IsReordered (scope setting.now.nest.now setting.now.values.now) (Shift statements.now level amount) space.now result }
 {
     let pieces = numbers(alloc, setting.values, statements)?;
     let level = number(setting.values, level);
@@ -74,13 +79,13 @@ fn shifted(
 fn unrolled(
     alloc: Global,
     space: &Space,
-    setting: Setting,
+    setting: &Setting,
     statement: Arg,
     level: Arg,
     amount: Arg,
 ) -> Result<Space, ShapeError>
     requires { space.now.commands < 32 }
-    ensures { IsReordered (scope setting.nest.now setting.values.now) (Unroll statement level amount) space.now result }
+    ensures { IsReordered (scope setting.now.nest.now setting.now.values.now) (Unroll statement level amount) space.now result }
 {
     let piece = number(setting.values, statement);
     let level = number(setting.values, level);
@@ -90,13 +95,13 @@ fn unrolled(
 fn peeled(
     alloc: Global,
     space: &Space,
-    setting: Setting,
+    setting: &Setting,
     statement: Arg,
     level: Arg,
     count: Arg,
 ) -> Result<Space, ShapeError>
     requires { space.now.commands < 32 }
-    ensures { IsReordered (scope setting.nest.now setting.values.now) (Peel statement level count) space.now result }
+    ensures { IsReordered (scope setting.now.nest.now setting.now.values.now) (Peel statement level count) space.now result }
 {
     let piece = number(setting.values, statement);
     let level = number(setting.values, level);
@@ -106,15 +111,15 @@ fn peeled(
 fn split_by(
     alloc: Global,
     space: &Space,
-    setting: Setting,
+    setting: &Setting,
     statement: Arg,
     level: Arg,
     condition: &Cond,
 ) -> Result<Space, ShapeError>
     requires few { space.now.commands < 32 }
-    requires fits { IsTrue (condition_fits purposes.Split (length setting.values.now) condition.now) }
-    requires small { All (IsAtMost (2 ^ 20)) setting.values.now }
-    ensures { IsReordered (scope setting.nest.now setting.values.now) (Split statement level condition.now) space.now result }
+    requires fits { IsTrue (condition_fits purposes.Split (length setting.now.values.now) condition.now) }
+    requires small { All (IsAtMost (2 ^ 20)) setting.now.values.now }
+    ensures { IsReordered (scope setting.now.nest.now setting.now.values.now) (Split statement level condition.now) space.now result }
 {
     let form = condition_of(alloc, condition, setting.values)?;
     let Aff { coefs, constant } = form;
@@ -127,29 +132,39 @@ fn split_by(
 fn fused(
     alloc: Global,
     space: &Space,
-    setting: Setting,
+    setting: &Setting,
     statements: &[Arg],
     level: Arg,
 ) -> Result<Space, ShapeError>
     requires { space.now.commands < 32 }
-    ensures { IsReordered (scope setting.nest.now setting.values.now) (Fuse statements.now level) space.now result }
+    ensures { IsReordered (scope setting.now.nest.now setting.now.values.now) (Fuse statements.now level) space.now result }
 {
     let pieces = numbers(alloc, setting.values, statements)?;
-    fuse(alloc, space, pieces.as_slice(), number(setting.values, level))
+    fuse(
+        alloc,
+        space,
+        pieces.as_slice(),
+        number(setting.values, level),
+    )
 }
 
 fn distributed(
     alloc: Global,
     space: &Space,
-    setting: Setting,
+    setting: &Setting,
     statements: &[Arg],
     level: Arg,
 ) -> Result<Space, ShapeError>
     requires { space.now.commands < 32 }
-    ensures { IsReordered (scope setting.nest.now setting.values.now) (Distribute statements.now level) space.now result }
+    ensures { IsReordered (scope setting.now.nest.now setting.now.values.now) (Distribute statements.now level) space.now result }
 {
     let pieces = numbers(alloc, setting.values, statements)?;
-    distribute(alloc, space, pieces.as_slice(), number(setting.values, level))
+    distribute(
+        alloc,
+        space,
+        pieces.as_slice(),
+        number(setting.values, level),
+    )
 }
 
 /// The program after a copy of an array's part into a buffer, or the first cause why its shape
@@ -157,14 +172,14 @@ fn distributed(
 pub(crate) fn copied(
     alloc: Global,
     space: &Space,
-    setting: Setting,
+    setting: &Setting,
     statement: Arg,
     level: Arg,
     array: &Text,
 ) -> Result<Space, ShapeError>
     requires few { space.now.commands < 32 }
     requires buffers { length space.now.temps < 32 }
-    ensures { IsCopied (scope setting.nest.now setting.values.now) (Datacopy statement level array.now)
+    ensures { IsCopied (scope setting.now.nest.now setting.now.values.now) (Datacopy statement level array.now)
         space.now result }
 {
     let piece = number(setting.values, statement);
@@ -177,15 +192,15 @@ pub(crate) fn copied(
 pub(crate) fn reordered(
     alloc: Global,
     space: &Space,
-    setting: Setting,
+    setting: &Setting,
     command: &Command,
 ) -> Result<Space, ShapeError>
     requires few { space.now.commands < 32 }
     requires orders { copies command.now ≡ false }
     requires moves { frees_sums command.now ≡ false }
-    requires fits { IsTrue (command_fits (length setting.values.now) command.now) }
-    requires small { All (IsAtMost (2 ^ 20)) setting.values.now }
-    ensures { IsReordered (scope setting.nest.now setting.values.now) command.now space.now result }
+    requires fits { IsTrue (command_fits (length setting.now.values.now) command.now) }
+    requires small { All (IsAtMost (2 ^ 20)) setting.now.values.now }
+    ensures { IsReordered (scope setting.now.nest.now setting.now.values.now) command.now space.now result }
 {
     match command {
         Command::Permute { statement, order } => {
@@ -197,13 +212,27 @@ pub(crate) fn reordered(
             amounts,
         } => {
             let amounts = amounts.as_slice();
-            skewed(alloc, space, setting, statements.as_slice(), *level, amounts)
+            skewed(
+                alloc,
+                space,
+                setting,
+                statements.as_slice(),
+                *level,
+                amounts,
+            )
         }
         Command::Shift {
             statements,
             level,
             amount,
-        } => shifted(alloc, space, setting, statements.as_slice(), *level, *amount),
+        } => shifted(
+            alloc,
+            space,
+            setting,
+            statements.as_slice(),
+            *level,
+            *amount,
+        ),
         Command::Tile {
             statement,
             level,
@@ -213,7 +242,14 @@ pub(crate) fn reordered(
             let piece = number(setting.values, *statement);
             let level = number(setting.values, *level);
             let size = number(setting.values, *size);
-            tile(alloc, space, piece, level, size, number(setting.values, *outer))
+            tile(
+                alloc,
+                space,
+                piece,
+                level,
+                size,
+                number(setting.values, *outer),
+            )
         }
         Command::Unroll {
             statement,

@@ -7,7 +7,7 @@ use Rattle.ch_variant.proofs.commands.distributed.Goals as goal
 pub returns : goal.returns
 returns c =
     let l : SFits w64 c.number.result = search rules in
-    distributes (scope c.args.setting.nest.now c.args.setting.values.now) c.args.statements.now c.args.level c.args.space.now c.distribute.result c.as_slice.result.now c.number.result
+    distributes (scope c.args.setting.now.nest.now c.args.setting.now.values.now) c.args.statements.now c.args.level c.args.space.now c.distribute.result c.as_slice.result.now c.number.result
     (c.as_slice.ensures ∙ c.in_ok-pieces.ensures) c.number.ensures
     (record {
       cause = simp to_z-of_z at c.distribute.ensures.cause;

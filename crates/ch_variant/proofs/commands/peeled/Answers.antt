@@ -9,7 +9,7 @@ returns c =
     let n : SFits w64 c.number-piece.result = search rules in
     let l : SFits w64 c.number-level.result = search rules in
     let k : SFits w64 c.number.result = search rules in
-    peels (scope c.args.setting.nest.now c.args.setting.values.now) c.args.statement c.args.level c.args.count c.args.space.now c.peel.result c.number-piece.result c.number-level.result c.number.result
+    peels (scope c.args.setting.now.nest.now c.args.setting.now.values.now) c.args.statement c.args.level c.args.count c.args.space.now c.peel.result c.number-piece.result c.number-level.result c.number.result
     c.number-piece.ensures c.number-level.ensures c.number.ensures
     (record {
       cause = simp to_z-of_z at c.peel.ensures.cause;

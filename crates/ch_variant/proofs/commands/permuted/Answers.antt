@@ -7,7 +7,7 @@ use Rattle.ch_variant.proofs.commands.permuted.Goals as goal
 pub returns : goal.returns
 returns c =
     let n : SFits w64 c.number.result = search rules in
-    permutes (scope c.args.setting.nest.now c.args.setting.values.now) c.args.statement c.args.order.now c.args.space.now c.permute.result c.number.result c.as_slice.result.now
+    permutes (scope c.args.setting.now.nest.now c.args.setting.now.values.now) c.args.statement c.args.order.now c.args.space.now c.permute.result c.number.result c.as_slice.result.now
     c.number.ensures (c.as_slice.ensures ∙ c.in_ok-order.ensures)
     (record {
       cause = simp to_z-of_z at c.permute.ensures.cause;

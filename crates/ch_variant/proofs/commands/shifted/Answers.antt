@@ -8,7 +8,7 @@ pub returns : goal.returns
 returns c =
     let l : SFits w64 c.number-level.result = search rules in
     let a : SFits w64 c.number-amount.result = search rules in
-    shifts (scope c.args.setting.nest.now c.args.setting.values.now) c.args.statements.now c.args.level c.args.amount c.args.space.now c.shift.result c.as_slice.result.now c.number-level.result c.number-amount.result
+    shifts (scope c.args.setting.now.nest.now c.args.setting.now.values.now) c.args.statements.now c.args.level c.args.amount c.args.space.now c.shift.result c.as_slice.result.now c.number-level.result c.number-amount.result
     (c.as_slice.ensures ∙ c.in_ok-pieces.ensures) c.number-level.ensures c.number-amount.ensures
     (record {
       cause = simp to_z-of_z at c.shift.ensures.cause;

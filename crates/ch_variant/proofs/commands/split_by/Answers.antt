@@ -10,7 +10,7 @@ returns c =
     let n : SFits w64 c.number-piece.result = search rules in
     let l : SFits w64 c.number-level.result = search rules in
     let k : SFits w64 c.form.inside.constant = search rules in
-    splits (scope c.args.setting.nest.now c.args.setting.values.now) c.args.statement c.args.level c.args.condition.now c.args.space.now c.split.result c.number-piece.result c.number-level.result
+    splits (scope c.args.setting.now.nest.now c.args.setting.now.values.now) c.args.statement c.args.level c.args.condition.now c.args.space.now c.split.result c.number-piece.result c.number-level.result
     (form c.form.inside.coefs c.form.inside.constant)
     c.number-piece.ensures c.number-level.ensures (c.form.view_is ∙ c.in_ok-form.ensures)
     (record {

@@ -9,7 +9,7 @@ returns c =
     let n : SFits w64 c.number-piece.result = search rules in
     let l : SFits w64 c.number-level.result = search rules in
     let u : SFits w64 c.number.result = search rules in
-    unrolls (scope c.args.setting.nest.now c.args.setting.values.now) c.args.statement c.args.level c.args.amount c.args.space.now c.unroll.result c.number-piece.result c.number-level.result c.number.result
+    unrolls (scope c.args.setting.now.nest.now c.args.setting.now.values.now) c.args.statement c.args.level c.args.amount c.args.space.now c.unroll.result c.number-piece.result c.number-level.result c.number.result
     c.number-piece.ensures c.number-level.ensures c.number.ensures
     (record {
       cause = simp to_z-of_z at c.unroll.ensures.cause;
