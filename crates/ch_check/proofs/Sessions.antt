@@ -6,7 +6,6 @@ use Rattle.std.proofs.lemmas.Bool.{and_parts}
 use Rattle.std.proofs.lemmas.List.{length-map}
 use Rattle.ch_check.specs.Sessions.{CanCheck, fits, fits_all}
 use Rattle.ch_deck.specs.Parts.{DeckParts, IsDeck}
-use Rattle.ch_subject.specs.Subjects.{can_judge, reorders_alone}
 use Rattle.ch_workload.specs.Sessions.{session_fits}
 use Rattle.ch_workload.specs.Tuned.{Tuned}
 
@@ -15,11 +14,10 @@ each_at p [] k x h l e = absurd (omega (arith, l))
 each_at p (y ∷ ys) zero x h l e = subst (λ z. IsTrue (p z)) (sym e) (and_parts (p y) (list_all p ys) h).0
 each_at p (y ∷ ys) (suc k) x h l e = each_at p ys k x (and_parts (p y) (list_all p ys) h).1 (omega (arith, l)) e
 
-pub can_check : (deck : DeckParts) (at : Option (List ℤ)) (k : ℕ) (s : Tuned) → IsDeck deck → IsTrue (can_judge deck) → IsTrue (fits_all at deck)
+pub can_check : (deck : DeckParts) (at : Option (List ℤ)) (k : ℕ) (s : Tuned) → IsDeck deck → IsTrue (fits_all at deck)
     → k < length deck.sessions → s ≡ get_or deck.sessions k s → CanCheck deck at s
-can_check deck at k s d j f l e = record {
+can_check deck at k s d f l e = record {
   there = each_at (session_fits (length deck.programs) deck.recipes) deck.sessions k s d.tuned l e;
-  reorders = each_at (reorders_alone deck) deck.sessions k s j l e;
   fits = each_at (fits at) deck.sessions k s f l e;
 }
 

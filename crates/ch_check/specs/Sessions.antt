@@ -11,7 +11,7 @@ use Rattle.ch_nest.specs.CostModel.{CostModel}
 use Rattle.ch_rank.specs.Moves.{centre}
 use Rattle.ch_script.specs.declared.refusal.Refusal.{Refusal}
 use Rattle.ch_space.specs.Listed.{Listed}
-use Rattle.ch_subject.specs.Subjects.{nest_of, recipe_in, reorders_alone}
+use Rattle.ch_subject.specs.Subjects.{nest_of, recipe_in}
 use Rattle.ch_variant.specs.Applied.{applied}
 use Rattle.ch_variant.specs.Judgements.{measured}
 use Rattle.ch_workload.specs.Sessions.{session_fits}
@@ -39,8 +39,7 @@ made deck at s = applied (nest_of deck s) (recipe_in deck s).commands (values_of
 abbrev pub told : CostModel → DeckParts → Option (List ℤ) → Tuned → Result Told Refusal
 told m deck at s = measured (told_of m (nest_of deck s)) (made deck at s)
 
--- A session can be checked: what it names is there, its recipe only reorders, and there are as many given values as parameters.
+-- A session can be checked: what it names is there, and there are as many given values as parameters.
 pub record CanCheck (deck : DeckParts) (at : Option (List ℤ)) (s : Tuned) : Type 0 where
   pub there : IsTrue (session_fits (length deck.programs) deck.recipes s)
-  pub reorders : IsTrue (reorders_alone deck s)
   pub fits : IsTrue (fits at s)

@@ -6,7 +6,6 @@ ghost use Rattle.ch_affine.specs.Affine.{IsAtMost};
 ghost use Rattle.ch_check.specs.Checked.{check_line, check_status, check_text, is_refused, line_on};
 ghost use Rattle.ch_check.specs.Sessions.{CanCheck, fits_all};
 ghost use Rattle.ch_report.specs.Numbered.{numbered};
-ghost use Rattle.ch_subject.specs.Subjects.{can_judge};
 
 use crate::answer::Answer;
 use crate::line::{put_legal, put_refused};
@@ -93,7 +92,6 @@ fn put_lines(
     deck: &Deck,
     at: &Option<List<i64>>,
 ) -> Result<bool, AllocError>
-    requires judged { IsTrue (can_judge deck.now) }
     requires long { IsTrue (fits_all at.now deck.now) }
     requires small { ForSome at.now (All (IsAtMost (2 ^ 20))) }
     ensures text { OnOk result (out.new ≡ out.old
@@ -119,7 +117,6 @@ fn put_lines(
 /// 2^20, or else at the values of the centre of the session's grid. Costs are counted on the
 /// machine of the first client that calls the session, or else on `machine(1, 8, 16, 4)`.
 pub fn check(alloc: Global, deck: &Deck, at: &Option<List<i64>>) -> Result<Answer, AllocError>
-    requires judged { IsTrue (can_judge deck.now) }
     requires long { IsTrue (fits_all at.now deck.now) }
     requires small { ForSome at.now (All (IsAtMost (2 ^ 20))) }
     ensures text { IfOk result (λ answer. answer.text ≡ check_text deck.now at.now) }

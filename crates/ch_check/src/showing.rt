@@ -9,7 +9,7 @@ ghost use Rattle.ch_check.specs.PieceText.{piece_lines};
 ghost use Rattle.ch_check.specs.Sessions.{CanCheck, fits_all};
 ghost use Rattle.ch_check.specs.Shown.{Shows, ShowsAll};
 ghost use Rattle.ch_code.specs.CodeText.{unit_text};
-ghost use Rattle.ch_subject.specs.Subjects.{can_judge, machine_of};
+ghost use Rattle.ch_subject.specs.Subjects.{machine_of};
 
 use crate::answer::Answer;
 use crate::checking::{either, status_of};
@@ -97,7 +97,6 @@ fn put_sessions(
     deck: &Deck,
     at: &Option<List<i64>>,
 ) -> Result<bool, AllocError>
-    requires judged { IsTrue (can_judge deck.now) }
     requires long { IsTrue (fits_all at.now deck.now) }
     requires small { ForSome at.now (All (IsAtMost (2 ^ 20))) }
     ensures text { OnOk result (Adds
@@ -120,7 +119,6 @@ fn put_sessions(
 /// first and last instance, and then code that executes the program. The status is that of `check`,
 /// and so are the values and the machines.
 pub fn show(alloc: Global, deck: &Deck, at: &Option<List<i64>>) -> Result<Answer, AllocError>
-    requires judged { IsTrue (can_judge deck.now) }
     requires long { IsTrue (fits_all at.now deck.now) }
     requires small { ForSome at.now (All (IsAtMost (2 ^ 20))) }
     ensures text { IfOk result (λ answer.

@@ -7,7 +7,7 @@ use anyhow::Result;
 use ch_deck::{Program, read_deck};
 use ch_nest::Machine;
 use ch_script::Recipe;
-use ch_variant::{apply, only_reorders};
+use ch_variant::apply;
 use std::alloc::{AllocError, Global};
 
 /// The machine of these numbers, as `1 8 16 4`: the cost of a turn and of a miss, the lines of the
@@ -47,9 +47,6 @@ fn of_recipe(
 {
     if recipe.params.len() != 0 {
         return Ok(String::from_str(alloc, "it has parameters")?);
-    }
-    if !only_reorders(recipe) {
-        return Ok(String::from_str(alloc, "it doesn't only reorder")?);
     }
     let space = apply(alloc, &program.nest, recipe, &[])?;
     Ok(costed(alloc, program, &space, machine, repeats)?)

@@ -17,7 +17,6 @@ use Rattle.ch_nest.specs.Limits.{most_number}
 use Rattle.ch_nestparse.specs.Spelling.{is_fill, is_name}
 use Rattle.ch_print.specs.Numbers.{number_text}
 use Rattle.ch_search.proofs.Sessions.{all_at}
-use Rattle.ch_subject.specs.Subjects.{can_judge}
 use Rattle.ch_workload.specs.Admissible.{has_admissible}
 use Rattle.ch_workload.specs.Clients.{client_fits}
 use Rattle.ch_workload.specs.Sessions.{session_fits}
@@ -118,13 +117,3 @@ with_few number n some few =
 
 pub is_deck : (number : ℕ) → IsDeck (generated number)
 is_deck number = with_few number (count_of number) (omega arith) (let rest = mod_below number 8 (omega arith) in omega (arith, rest))
-
--- ---- its recipe
-
-all_judged : (number : ℕ) → list_all (λ n. can_judge (deck_with number n)) (range_with_len 1 8) ≡ true
-all_judged number = refl
-
-pub can_be_judged : (number : ℕ) → IsTrue (can_judge (generated number))
-can_be_judged number =
-    let rest = mod_below number 8 (omega arith) in
-    in_range (λ n. can_judge (deck_with number n)) 1 8 (count_of number) (all_judged number) (omega arith) (omega (arith, rest))

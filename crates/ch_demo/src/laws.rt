@@ -1,18 +1,12 @@
 //! Laws of the definitions, each carried by a function without arguments that does nothing.
-ghost use Rattle.std.specs.Prelude.{◌≡◌, ℕ, IsTrue, List};
+ghost use Rattle.std.specs.Prelude.{◌≡◌, ℕ, List};
 ghost use Rattle.ch_deck.specs.Parts.{IsDeck};
 ghost use Rattle.ch_demo.specs.Generated.{generated};
 ghost use Rattle.ch_demo.specs.Summaries.{IsDemoText};
-ghost use Rattle.ch_subject.specs.Subjects.{can_judge};
 
 /// What is made from a number is a deck, as a reader of decks might have read it.
 pub fn generated_decks_are_decks()
     ensures { (number : ℕ) → IsDeck (generated number) }
-{}
-
-/// Its recipe only reorders, so that every command which judges recipes takes the deck.
-pub fn generated_decks_can_be_judged()
-    ensures { (number : ℕ) → IsTrue (can_judge (generated number)) }
 {}
 
 /// A number has one text.

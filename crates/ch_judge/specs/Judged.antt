@@ -1,6 +1,5 @@
 -- What is said of a recipe: its refusal, or what a machine tells of the program that it makes, and code for that program.
 use Rattle.std.specs.Prelude.{◌≡◌, ℕ, IsTrue, Result, List, ◌++◌, length}
-use Rattle.std.specs.List.{list_all}
 use Rattle.ch_code.specs.Trace.{unit_trace}
 use Rattle.ch_code.specs.UnitParts.{UnitParts}
 use Rattle.ch_code.specs.WellFormed.{IsUnit}
@@ -15,7 +14,6 @@ use Rattle.ch_script.specs.declared.refusal.Refusal.{Refusal}
 use Rattle.ch_session.specs.Making.{Origin}
 use Rattle.ch_space.specs.Listed.{Listed}
 use Rattle.ch_timed.specs.Timed.{pieces}
-use Rattle.ch_variant.specs.Commands.{reorders}
 use Rattle.ch_variant.specs.Judgements.{measured}
 use Rattle.ch_variant.specs.Variants.{applied_at}
 
@@ -39,8 +37,7 @@ pub record IsCodeFor (nest : LoopNest) (p : Listed) (u : UnitParts) : Type 0 whe
   pub arrays : u.arrays ≡ nest.arrays
   pub temps : u.temps ≡ p.temps
 
--- The nest can be run, each array has its fill, and each command gives the instances another order.
+-- The nest can be run, and each array has its fill.
 pub record IsSubject (s : Subject) : Type 0 where
   pub sound : IsTrue (is_sound s.nest.now)
   pub filled : length s.fills.now ≡ length s.nest.now.arrays
-  pub reorders : IsTrue (list_all reorders s.recipe.now.commands)

@@ -2,31 +2,21 @@
 use Rattle.std.proofs.Common.{◌≡◌, ℕ, ℤ, Bool, true, false, if◌then◌else◌, List, Option, Some, None, IfSome, refl, subst, inl, inr, arith}
 use Rattle.std.specs.Bool.{IsTrue}
 use Rattle.std.specs.List.{All}
-use Rattle.std.specs.Option.{ForSome, option_or}
+use Rattle.std.specs.Option.{ForSome}
 use Rattle.ch_affine.specs.Affine.{IsAtMost}
 use Rattle.ch_check.specs.Sessions.{fits_all}
 use Rattle.ch_deck.specs.Parts.{DeckParts}
-use Rattle.ch_lex.specs.declared.error.Code2.TheVariants.{D11, R2}
-use Rattle.ch_run.specs.Answers.{unfit_values, unknown_command}
+use Rattle.ch_lex.specs.declared.error.Code2.TheVariants.{D11}
+use Rattle.ch_run.specs.Answers.{unfit_values}
 use Rattle.ch_run.specs.Conduct.{IsWhole}
-use Rattle.ch_subject.specs.Subjects.{can_judge}
 use Rattle.ch_words.specs.Numbers.{largest_value}
 
-one : (c : Bool) → (if c then None else Some R2) ≡ None → IsTrue c
-one true h = refl
-one false h = absurd cc
+none : (f : Bool) → (if f then None else Some D11) ≡ None → IsTrue f
+none true h = refl
+none false h = absurd cc
 
-both : (c f : Bool) → option_or (if c then None else Some R2) (if f then None else Some D11) ≡ None → IsTrue c × IsTrue f
-both true true h = (refl, refl)
-both true false h = absurd cc
-both false f h = absurd cc
-
-pub known_commands : (deck : DeckParts) → unknown_command deck ≡ None → IsTrue (can_judge deck)
-known_commands deck h = one (can_judge deck) h
-
-pub fit : (at : Option (List ℤ)) (deck : DeckParts) → option_or (unknown_command deck) (unfit_values at deck) ≡ None
-    → IsTrue (can_judge deck) × IsTrue (fits_all at deck)
-fit at deck h = both (can_judge deck) (fits_all at deck) h
+pub fit : (at : Option (List ℤ)) (deck : DeckParts) → unfit_values at deck ≡ None → IsTrue (fits_all at deck)
+fit at deck h = none (fits_all at deck) h
 
 -- small values, as the checks want them
 pub for_small : (at : Option (List ℤ)) → IfSome at (All (IsAtMost largest_value)) → ForSome at (All (IsAtMost largest_value))

@@ -1,6 +1,5 @@
 -- What the program may answer to an input: a status and a text.
 use Rattle.std.specs.Prelude.{◌≡◌, ℕ, ℤ, if◌then◌else◌, List, [], Option, Some, None, Result, Ok, Err}
-use Rattle.std.specs.Option.{option_or}
 use Rattle.std.specs.Io.KnownBytes.{Appends}
 use Rattle.ch_check.specs.Checked.{check_status, check_text}
 use Rattle.ch_check.specs.Sessions.{fits_all}
@@ -12,19 +11,13 @@ use Rattle.ch_deck.specs.declared.refusal.Refused.{Refused}
 use Rattle.ch_deck.specs.Refusals.{refusal_line}
 use Rattle.ch_io.specs.Streams.{AppendsPart}
 use Rattle.ch_lex.specs.declared.error.Code2.{Code2}
-use Rattle.ch_lex.specs.declared.error.Code2.TheVariants.{D11, R2}
+use Rattle.ch_lex.specs.declared.error.Code2.TheVariants.{D11}
 use Rattle.ch_run.specs.EvalText.{eval_text}
 use Rattle.ch_search.specs.Searched.{IsSearchText}
-use Rattle.ch_subject.specs.Subjects.{can_judge}
 use Rattle.ch_words.specs.Requests.{reads_input}
 use Rattle.ch_words.specs.declared.request.Request.{Request}
 use Rattle.ch_words.specs.declared.request.Request.TheVariants.{Eval, Check, Show, Search, Demo}
 use Rattle.ch_workload.specs.declared.error.DeckCode.TheVariants.{Plain}
-
--- Copies into buffers aren't made yet: where the recipe of a session has one, the commands that apply recipes refuse the deck by the code of
--- a command that isn't known.
-abbrev pub unknown_command : DeckParts → Option Code2
-unknown_command deck = if can_judge deck then None else Some R2
 
 -- each session must have as many parameters as values are given
 abbrev pub unfit_values : Option (List ℤ) → DeckParts → Option Code2
@@ -32,9 +25,8 @@ unfit_values at deck = if fits_all at deck then None else Some D11
 
 -- why an accepted deck is refused by what is asked of it
 abbrev pub unfit : Request → DeckParts → Option Code2
-unfit (Check at) deck = option_or (unknown_command deck) (unfit_values at deck)
-unfit (Show at) deck = option_or (unknown_command deck) (unfit_values at deck)
-unfit Search deck = unknown_command deck
+unfit (Check at) deck = unfit_values at deck
+unfit (Show at) deck = unfit_values at deck
 unfit other deck = None
 
 -- a refusal of the whole input, at no place

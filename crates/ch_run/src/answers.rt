@@ -1,7 +1,7 @@
 //! What is answered to an input.
 ghost use Rattle.std.specs.Prelude.{◌≡◌, IfOk, None, Ok, Some, true};
 ghost use Rattle.ch_deck.specs.Decks.{deck_of};
-ghost use Rattle.ch_run.specs.Answers.{IsAnswer, IsRefused, IsTold, refused_whole, unfit, unfit_values, unknown_command};
+ghost use Rattle.ch_run.specs.Answers.{IsAnswer, IsRefused, IsTold, refused_whole, unfit, unfit_values};
 ghost use Rattle.ch_run.specs.Conduct.{IsWhole};
 ghost use Rattle.ch_run.specs.Requests.{answered};
 ghost use Rattle.ch_words.specs.Requests.{HasSmallValues, reads_input};
@@ -12,20 +12,9 @@ use ch_check::{Answer, check, fits_all, show};
 use ch_deck::{Deck, DeckError, Refused, read_deck};
 use ch_lex::Code2;
 use ch_search::answer as search;
-use ch_subject::can_judge;
 use ch_words::Request;
 use ch_workload::DeckCode;
 use std::alloc::{AllocError, Global};
-
-fn unknown_command(deck: &Deck) -> Option<Code2>
-    ensures { result ≡ unknown_command deck.now }
-{
-    if can_judge(deck) {
-        None
-    } else {
-        Some(Code2::R2)
-    }
-}
 
 fn unfit_values(at: &Option<List<i64>>, deck: &Deck) -> Option<Code2>
     ensures { result ≡ unfit_values at.now deck.now }
@@ -42,10 +31,7 @@ fn unfit(request: &Request, deck: &Deck) -> Option<Code2>
     ensures { result ≡ unfit request.now deck.now }
 {
     match request {
-        Request::Check { at } | Request::Show { at } => {
-            unknown_command(deck).or(unfit_values(at, deck))
-        }
-        Request::Search => unknown_command(deck),
+        Request::Check { at } | Request::Show { at } => unfit_values(at, deck),
         _ => None,
     }
 }
@@ -71,7 +57,7 @@ fn refused_whole(alloc: Global, code: Code2) -> Refused
 }
 
 /// What is told of a deck that isn't refused by what is asked of it.
-#[tactic(auto, using(crate::proofs::Fit::fit, crate::proofs::Fit::for_small, crate::proofs::Fit::known_commands, crate::proofs::Fit::is_whole))]
+#[tactic(auto, using(crate::proofs::Fit::fit, crate::proofs::Fit::for_small, crate::proofs::Fit::is_whole))]
 fn told(alloc: Global, request: &Request, deck: &Deck) -> Result<Answer, AllocError>
     requires fit { unfit request.now deck.now ≡ None }
     requires asked { answered request.now ≡ Some request.now }

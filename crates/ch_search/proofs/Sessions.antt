@@ -14,7 +14,7 @@ use Rattle.ch_report.specs.declared.part.SessionPart.{SessionPart}
 use Rattle.ch_script.specs.Recipes.{RecipeParts}
 use Rattle.ch_search.specs.Parts.{Each, IsPart}
 use Rattle.ch_search.specs.Searched.{lines_of}
-use Rattle.ch_subject.specs.Subjects.{can_judge, machine_of, nest_of, recipe_in, reorders_alone}
+use Rattle.ch_subject.specs.Subjects.{machine_of, nest_of, recipe_in}
 use Rattle.ch_tune.specs.Tuned.{IsTuned}
 use Rattle.ch_variant.specs.Variants.{origin_at}
 use Rattle.ch_workload.specs.Limits.{most_repeats}
@@ -40,9 +40,6 @@ module _ (deck : DeckParts) (ss : List Tuned) (i : ℕ) (is : ss ≡ deck.sessio
   fits_there s here d =
       let fits = session_fits (length deck.programs) deck.recipes in
       all_at fits ss i s (subst (λ xs. IsTrue (list_all fits xs)) (sym is) d.tuned) l here
-
-  pub alone_there : (s : Tuned) → s ≡ get_or ss i s → IsTrue (can_judge deck) → IsTrue (reorders_alone deck s)
-  alone_there s here h = all_at (reorders_alone deck) ss i s (subst (λ xs. IsTrue (list_all (reorders_alone deck) xs)) (sym is) h) l here
 
 -- how often a trial is measured
 pub repeats : (s : Tuned) → IsTrue (is_tuned s) → (1 ≤ s.repeat) × (s.repeat ≤ 9)

@@ -2,7 +2,6 @@
 ghost use Rattle.std.specs.Prelude.{◌≡◌, IfOk, IsTrue, length};
 ghost use Rattle.ch_report.specs.Sessions.{is_inside};
 ghost use Rattle.ch_search.specs.Parts.{AreInside, ArePartsOf, IsPart};
-ghost use Rattle.ch_subject.specs.Subjects.{can_judge, reorders_alone};
 ghost use Rattle.ch_workload.specs.Sessions.{session_fits};
 
 use crate::tried::searched;
@@ -22,7 +21,6 @@ fn part_of<'a>(
 ) -> Result<SessionPart, AllocError>
     requires there { IsTrue
         (session_fits (length deck.now.programs) deck.now.recipes session.now) }
-    requires reorders { IsTrue (reorders_alone deck.now session.now) }
     ensures tuned { IfOk result (λ part. IsPart deck.now k session.now part) }
     ensures inside { IfOk result (λ part. IsTrue (is_inside session.now.params part)) }
 {
@@ -37,7 +35,6 @@ fn part_of<'a>(
 /// Each search is led by one thread to its end, as by `searched`; costs are counted on the machine
 /// of the first client that calls the session.
 pub fn parts_of(alloc: Global, deck: &Deck) -> Result<List<SessionPart>, AllocError>
-    requires { IsTrue (can_judge deck.now) }
     ensures tuned { IfOk result (λ parts. ArePartsOf deck.now parts) }
     ensures inside { IfOk result (λ parts. AreInside deck.now parts) }
 {

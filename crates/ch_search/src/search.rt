@@ -3,7 +3,6 @@ ghost use Rattle.std.specs.Prelude.{◌≡◌, ◌++◌, IfOk, IsTrue, OnOk, len
 ghost use Rattle.ch_report.specs.Sessions.{is_inside};
 ghost use Rattle.ch_search.specs.Parts.{AreInside};
 ghost use Rattle.ch_search.specs.Searched.{IsSearchText, lines_of, session_part};
-ghost use Rattle.ch_subject.specs.Subjects.{can_judge};
 ghost use Rattle.ch_workload.specs.Sessions.{session_fits};
 
 use crate::parts::parts_of;
@@ -60,7 +59,6 @@ fn put_parts(
 /// The text of `search`: the lines of each session, in the deck's order, with what its search came
 /// to, and `end`.
 pub fn answer(alloc: Global, deck: &Deck) -> Result<Text, AllocError>
-    requires { IsTrue (can_judge deck.now) }
     ensures { IfOk result (λ text. IsSearchText deck.now text) }
 {
     let parts = parts_of(alloc, deck)?;

@@ -1,13 +1,11 @@
 //! The search of one program.
 ghost use Rattle.std.specs.Prelude.{◌≡◌, ◌≤◌, ℕ, IfOk, IsTrue, Result, length};
-ghost use Rattle.std.specs.List.{list_all};
 ghost use Rattle.ch_judge.specs.Judged.{IsSubject, judged_at};
 ghost use Rattle.ch_nest.specs.Sound.{is_sound};
 ghost use Rattle.ch_report.specs.Sessions.{is_inside};
 ghost use Rattle.ch_script.specs.declared.refusal.Refusal.{Refusal};
 ghost use Rattle.ch_tune.specs.Tuned.{IsTuned, found_of};
 ghost use Rattle.ch_variant.specs.Applied.{IsAnswer};
-ghost use Rattle.ch_variant.specs.Commands.{reorders};
 ghost use Rattle.ch_variant.specs.Variants.{origin_at};
 
 use ch_grid::Grid;
@@ -24,7 +22,6 @@ struct Tried<'a> {
     grid: &'a Grid,
     ghost sound: { IsTrue (is_sound subject.now.nest.now) },
     ghost filled: { length subject.now.fills.now ≡ length subject.now.nest.now.arrays },
-    ghost reorders: { IsTrue (list_all reorders subject.now.recipe.now.commands) },
     ghost params: { length grid.now.params ≡ length subject.now.recipe.now.params },
 }
 

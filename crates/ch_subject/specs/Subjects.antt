@@ -1,13 +1,12 @@
 -- What a session of a deck names: a program, a recipe, and the machine on which its costs are counted.
 use Rattle.std.specs.Prelude.{ℕ, Bool, nat_eq, if◌then◌else◌, List, [], ◌∷◌, slice_get}
-use Rattle.std.specs.List.{list_all, list_any}
+use Rattle.std.specs.List.{list_any}
 use Rattle.std.specs.Option.{option_map_or}
 use Rattle.ch_deck.specs.Parts.{DeckParts}
 use Rattle.ch_deck.specs.declared.program.Program.{Program}
 use Rattle.ch_nest.specs.CostModel.{CostModel}
 use Rattle.ch_nest.specs.LoopNest.{LoopNest}
 use Rattle.ch_script.specs.Recipes.{RecipeParts}
-use Rattle.ch_variant.specs.Commands.{reorders}
 use Rattle.ch_workload.specs.Machines.{usual_machine}
 use Rattle.ch_workload.specs.Sessions.{numbered}
 use Rattle.ch_workload.specs.Tuned.{Tuned}
@@ -37,11 +36,3 @@ nest_of deck s = (program_in deck s).nest
 
 abbrev pub recipe_in : DeckParts → Tuned → RecipeParts
 recipe_in deck s = numbered deck.recipes s.recipe
-
--- each command of its recipe is about the order of the statement instances alone
-abbrev pub reorders_alone : DeckParts → Tuned → Bool
-reorders_alone deck s = list_all reorders (recipe_in deck s).commands
-
--- and so for each session
-abbrev pub can_judge : DeckParts → Bool
-can_judge deck = list_all (reorders_alone deck) deck.sessions

@@ -6,4 +6,4 @@ mod machine;
 mod subject;
 
 pub use machine::machine_of;
-pub use subject::{can_judge, program_of, recipe_of, subject_of};
+pub use subject::{program_of, recipe_of, subject_of};

@@ -2,15 +2,13 @@
 ghost use Rattle.std.specs.Prelude.{◌≡◌, IsTrue, length};
 ghost use Rattle.ch_deck.specs.Programs.{IsProgram};
 ghost use Rattle.ch_judge.specs.Judged.{IsSubject};
-ghost use Rattle.ch_subject.specs.Subjects.{can_judge, nest_of, program_in};
-ghost use Rattle.ch_subject.specs.Subjects.{recipe_in, reorders_alone};
+ghost use Rattle.ch_subject.specs.Subjects.{nest_of, program_in, recipe_in};
 ghost use Rattle.ch_workload.specs.Sessions.{session_fits};
 
 use ch_deck::{Deck, Program};
 use ch_judge::Subject;
 use ch_nest::Machine;
 use ch_script::Recipe;
-use ch_variant::only_reorders;
 use ch_workload::SessionDecl;
 
 /// The program that a session of the deck names.
@@ -37,11 +35,10 @@ pub fn recipe_of<'a>(deck: &'a Deck, session: &SessionDecl) -> &'a Recipe
 }
 
 /// What is judged of a session of the deck on a machine: its program, with the program's fills, and
-/// its recipe, whose commands are all about the order of the statement instances.
+/// its recipe.
 pub fn subject_of<'a>(deck: &'a Deck, session: &SessionDecl, machine: &'a Machine) -> Subject<'a>
     requires there { IsTrue
         (session_fits (length deck.now.programs) deck.now.recipes session.now) }
-    requires reorders { IsTrue (reorders_alone deck.now session.now) }
     ensures subject { IsSubject result }
     ensures nest { result.nest.now ≡ nest_of deck.now session.now }
     ensures recipe { result.recipe.now ≡ recipe_in deck.now session.now }
@@ -55,24 +52,4 @@ pub fn subject_of<'a>(deck: &'a Deck, session: &SessionDecl, machine: &'a Machin
         recipe: recipe_of(deck, session),
         machine,
     }
-}
-
-/// Whether each command of a session's recipe is about the order of the statement instances alone.
-fn reorders_alone(deck: &Deck, session: &SessionDecl) -> bool
-    ensures { result ≡ reorders_alone deck.now session.now }
-{
-    match deck.recipes().get(session.recipe as usize) {
-        Some(recipe) => only_reorders(recipe),
-        None => true,
-    }
-}
-
-/// Whether what the sessions of a deck name can be judged: whether each command of each recipe that
-/// one of them names is about the order of the statement instances alone.
-pub fn can_judge(deck: &Deck) -> bool
-    ensures { result ≡ can_judge deck.now }
-{
-    deck.sessions()
-        .iter()
-        .all(|session| reorders_alone(deck, session))
 }

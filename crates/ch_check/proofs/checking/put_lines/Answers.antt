@@ -16,7 +16,7 @@ pub put_line-requires-clause-session : goal.put_line-requires-clause-session
 put_line-requires-clause-session c =
     let deck = c.args.deck.now in
     let item = item_of c.sessions-session-items.result.now deck.sessions c.loop-k.k c.session-item.result c.sessions-session-items.ensures c.loop-k-test.true c.session-item.is in
-    can_check deck c.args.at.now c.loop-k.k c.session-item.result c.known.ensures c.requires.judged c.requires.long item.0 item.1
+    can_check deck c.args.at.now c.loop-k.k c.session-item.result c.known.ensures c.requires.long item.0 item.1
 
 pub loop-k-preserved : goal.loop-k-preserved
 loop-k-preserved c =

@@ -2,7 +2,7 @@ use Rattle.std.proofs.Common.{◌≡◌, ◌++◌, ◌∷◌, [], arith, rules}
 use Rattle.std.specs.Bool.{IsTrue}
 use Rattle.ch_report.specs.Sessions.{is_inside}
 use Rattle.ch_search.specs.Parts.{IsPart}
-use Rattle.ch_search.proofs.Sessions.{alone_there, each_all, each_more, few_sessions, fits_there}
+use Rattle.ch_search.proofs.Sessions.{each_all, each_more, few_sessions, fits_there}
 use Rattle.ch_search.proofs.parts.parts_of.Goals as goal
 
 pub overflow_cast-k : goal.overflow_cast-k
@@ -13,10 +13,6 @@ overflow_cast-k c =
 pub part_of-requires-clause-there : goal.part_of-requires-clause-there
 part_of-requires-clause-there c =
     fits_there c.args.deck.now c.sessions-sessions.result.now c.loop-k.k c.sessions-sessions.ensures c.loop-k-test.true c.index-sessions-k.result c.index-sessions-k.is c.known.ensures
-
-pub part_of-requires-clause-reorders : goal.part_of-requires-clause-reorders
-part_of-requires-clause-reorders c =
-    alone_there c.args.deck.now c.sessions-sessions.result.now c.loop-k.k c.sessions-sessions.ensures c.loop-k-test.true c.index-sessions-k.result c.index-sessions-k.is c.requires
 
 pub loop-k-preserved : goal.loop-k-preserved
 loop-k-preserved c =
