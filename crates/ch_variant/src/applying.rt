@@ -97,12 +97,12 @@ fn reorder(
     requires moves { frees_sums command.now ≡ false }
     requires fits { IsTrue (command_fits (length setting.now.values.now) command.now) }
     requires small { All (IsAtMost (2 ^ 20)) setting.now.values.now }
-    ensures answer { IsAnswer result (one (scope setting.now.nest.now setting.now.values.now) turn.sums
-        turn.step command.now space.now) }
+    ensures answer { IsAnswer result (one (scope setting.now.nest.now setting.now.values.now)
+        turn.sums turn.step command.now space.now) }
     ensures keeps { IfOk result (λ new. Keeps space.now new) }
     ensures parts { IfOk result (IsBehind space.now) }
-    ensures least { IfErr result (StepIsLeast (scope setting.now.nest.now setting.now.values.now) turn.sums
-        turn.step command.now space.now) }
+    ensures least { IfErr result (StepIsLeast (scope setting.now.nest.now
+        setting.now.values.now) turn.sums turn.step command.now space.now) }
 {
     let new = match reordered(alloc, space, setting, command) {
         Ok(new) => new,
@@ -130,12 +130,12 @@ fn one(
     requires moves { frees_sums command.now ≡ false }
     requires fits { IsTrue (command_fits (length setting.now.values.now) command.now) }
     requires small { All (IsAtMost (2 ^ 20)) setting.now.values.now }
-    ensures answer { IsAnswer result (one (scope setting.now.nest.now setting.now.values.now) turn.sums
-        turn.step command.now space.now) }
+    ensures answer { IsAnswer result (one (scope setting.now.nest.now setting.now.values.now)
+        turn.sums turn.step command.now space.now) }
     ensures keeps { IfOk result (λ new. Keeps space.now new) }
     ensures parts { IfOk result (IsBehind space.now) }
-    ensures least { IfErr result (StepIsLeast (scope setting.now.nest.now setting.now.values.now) turn.sums
-        turn.step command.now space.now) }
+    ensures least { IfErr result (StepIsLeast (scope setting.now.nest.now
+        setting.now.values.now) turn.sums turn.step command.now space.now) }
 {
     match command {
         Command::Datacopy {

@@ -8,8 +8,8 @@ use ch_nest::{ArrayDecl, Nest};
 use ch_script::Arg;
 use std::alloc::{AllocError, Global};
 
-/// What the words of a command are read by: the nest, whose arrays have the names, and the values of
-/// the parameters.
+/// What the words of a command are read by: the nest, whose arrays have the names, and the values
+/// of the parameters.
 #[derive(Clone, Copy, Debug)]
 pub(crate) struct Setting<'a> {
     pub(crate) nest: &'a Nest,

@@ -31,7 +31,8 @@ fn permuted(
     order: &[Arg],
 ) -> Result<Space, ShapeError>
     requires { space.now.commands < 32 }
-    ensures { IsReordered (scope setting.now.nest.now setting.now.values.now) (Permute statement order.now) space.now result }
+    ensures { IsReordered (scope setting.now.nest.now setting.now.values.now)
+        (Permute statement order.now) space.now result }
 {
     let order = numbers(alloc, setting.values, order)?;
     permute(
@@ -51,7 +52,8 @@ fn skewed(
     amounts: &[Arg],
 ) -> Result<Space, ShapeError>
     requires { space.now.commands < 32 }
-    ensures { IsReordered (scope setting.now.nest.now setting.now.values.now) (Skew statements.now level amounts.now) space.now result }
+    ensures { IsReordered (scope setting.now.nest.now setting.now.values.now)
+        (Skew statements.now level amounts.now) space.now result }
 {
     let pieces = numbers(alloc, setting.values, statements)?;
     let amounts = numbers(alloc, setting.values, amounts)?;
@@ -68,7 +70,8 @@ fn shifted(
     amount: Arg,
 ) -> Result<Space, ShapeError>
     requires { space.now.commands < 32 }
-    ensures { IsReordered (scope setting.now.nest.now setting.now.values.now) (Shift statements.now level amount) space.now result }
+    ensures { IsReordered (scope setting.now.nest.now setting.now.values.now)
+        (Shift statements.now level amount) space.now result }
 {
     let pieces = numbers(alloc, setting.values, statements)?;
     let level = number(setting.values, level);
@@ -85,7 +88,8 @@ fn unrolled(
     amount: Arg,
 ) -> Result<Space, ShapeError>
     requires { space.now.commands < 32 }
-    ensures { IsReordered (scope setting.now.nest.now setting.now.values.now) (Unroll statement level amount) space.now result }
+    ensures { IsReordered (scope setting.now.nest.now setting.now.values.now)
+        (Unroll statement level amount) space.now result }
 {
     let piece = number(setting.values, statement);
     let level = number(setting.values, level);
@@ -101,7 +105,8 @@ fn peeled(
     count: Arg,
 ) -> Result<Space, ShapeError>
     requires { space.now.commands < 32 }
-    ensures { IsReordered (scope setting.now.nest.now setting.now.values.now) (Peel statement level count) space.now result }
+    ensures { IsReordered (scope setting.now.nest.now setting.now.values.now)
+        (Peel statement level count) space.now result }
 {
     let piece = number(setting.values, statement);
     let level = number(setting.values, level);
@@ -117,9 +122,11 @@ fn split_by(
     condition: &Cond,
 ) -> Result<Space, ShapeError>
     requires few { space.now.commands < 32 }
-    requires fits { IsTrue (condition_fits purposes.Split (length setting.now.values.now) condition.now) }
+    requires fits { IsTrue (condition_fits purposes.Split (length setting.now.values.now)
+        condition.now) }
     requires small { All (IsAtMost (2 ^ 20)) setting.now.values.now }
-    ensures { IsReordered (scope setting.now.nest.now setting.now.values.now) (Split statement level condition.now) space.now result }
+    ensures { IsReordered (scope setting.now.nest.now setting.now.values.now)
+        (Split statement level condition.now) space.now result }
 {
     let form = condition_of(alloc, condition, setting.values)?;
     let Aff { coefs, constant } = form;
@@ -137,7 +144,8 @@ fn fused(
     level: Arg,
 ) -> Result<Space, ShapeError>
     requires { space.now.commands < 32 }
-    ensures { IsReordered (scope setting.now.nest.now setting.now.values.now) (Fuse statements.now level) space.now result }
+    ensures { IsReordered (scope setting.now.nest.now setting.now.values.now)
+        (Fuse statements.now level) space.now result }
 {
     let pieces = numbers(alloc, setting.values, statements)?;
     fuse(
@@ -156,7 +164,8 @@ fn distributed(
     level: Arg,
 ) -> Result<Space, ShapeError>
     requires { space.now.commands < 32 }
-    ensures { IsReordered (scope setting.now.nest.now setting.now.values.now) (Distribute statements.now level) space.now result }
+    ensures { IsReordered (scope setting.now.nest.now setting.now.values.now)
+        (Distribute statements.now level) space.now result }
 {
     let pieces = numbers(alloc, setting.values, statements)?;
     distribute(
@@ -179,8 +188,8 @@ pub(crate) fn copied(
 ) -> Result<Space, ShapeError>
     requires few { space.now.commands < 32 }
     requires buffers { length space.now.temps < 32 }
-    ensures { IsCopied (scope setting.now.nest.now setting.now.values.now) (Datacopy statement level array.now)
-        space.now result }
+    ensures { IsCopied (scope setting.now.nest.now setting.now.values.now)
+        (Datacopy statement level array.now) space.now result }
 {
     let piece = number(setting.values, statement);
     let level = number(setting.values, level);
@@ -200,7 +209,8 @@ pub(crate) fn reordered(
     requires moves { frees_sums command.now ≡ false }
     requires fits { IsTrue (command_fits (length setting.now.values.now) command.now) }
     requires small { All (IsAtMost (2 ^ 20)) setting.now.values.now }
-    ensures { IsReordered (scope setting.now.nest.now setting.now.values.now) command.now space.now result }
+    ensures { IsReordered (scope setting.now.nest.now setting.now.values.now)
+        command.now space.now result }
 {
     match command {
         Command::Permute { statement, order } => {
@@ -242,14 +252,8 @@ pub(crate) fn reordered(
             let piece = number(setting.values, *statement);
             let level = number(setting.values, *level);
             let size = number(setting.values, *size);
-            tile(
-                alloc,
-                space,
-                piece,
-                level,
-                size,
-                number(setting.values, *outer),
-            )
+            let outer = number(setting.values, *outer);
+            tile(alloc, space, piece, level, size, outer)
         }
         Command::Unroll {
             statement,
