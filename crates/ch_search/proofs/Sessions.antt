@@ -1,12 +1,11 @@
 -- Sessions with their parts, one after another.
-use Rattle.std.proofs.Common.{◌≡◌, ◌∙◌, sym, ap, ap₂, subst, refl, ℕ, zero, suc, ◌+◌, ◌<◌, ◌≤◌, ◌&&◌, nat_le, Bool, List, [], ◌∷◌, ◌++◌, length, map, take, drop, get_or, append_assoc, append-nil, arith}
+use Rattle.std.proofs.Common.{◌≡◌, ◌∙◌, sym, ap, ap₂, subst, refl, ℕ, zero, suc, ◌+◌, ◌<◌, ◌≤◌, nat_le, Bool, List, [], ◌∷◌, ◌++◌, length, map, take, drop, get_or, append_assoc, append-nil, arith}
 use Rattle.std.specs.Bool.{IsTrue}
 use Rattle.std.specs.List.{list_all}
 use Rattle.std.proofs.lemmas.Bool.{and_parts, leb-true}
 use Rattle.std.proofs.lemmas.List.{drop_all, drop_more, length-map, take_all, take_more}
 use Rattle.ch_deck.specs.Parts.{DeckParts, IsDeck}
 use Rattle.ch_grid.specs.Grid.{is_within}
-use Rattle.ch_grid.specs.declared.param.Param.{Param}
 use Rattle.ch_judge.specs.Judged.{judged_at}
 use Rattle.ch_nest.specs.CostModel.{CostModel}
 use Rattle.ch_nest.specs.LoopNest.{LoopNest}

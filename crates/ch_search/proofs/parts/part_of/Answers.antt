@@ -1,4 +1,4 @@
-use Rattle.std.proofs.Common.{◌≡◌, ◌∙◌, ◌≤◌, sym, ap, subst, length}
+use Rattle.std.proofs.Common.{◌∙◌, ◌≤◌, sym, ap, subst, length}
 use Rattle.std.specs.Bool.{IsTrue}
 use Rattle.std.proofs.lemmas.Result.{IfOk-weaker}
 use Rattle.ch_report.specs.Sessions.{is_inside}

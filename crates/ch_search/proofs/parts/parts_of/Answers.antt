@@ -10,9 +10,10 @@ overflow_cast-k c =
     let few = few_sessions c.args.deck.now c.sessions-sessions.result.now c.loop-k.k c.sessions-sessions.ensures c.loop-k-test.true c.known.ensures in
     omega (arith, few)
 
-pub part_of-requires-clause-there : goal.part_of-requires-clause-there
-part_of-requires-clause-there c =
-    fits_there c.args.deck.now c.sessions-sessions.result.now c.loop-k.k c.sessions-sessions.ensures c.loop-k-test.true c.index-sessions-k.result c.index-sessions-k.is c.known.ensures
+pub part_of-requires : goal.part_of-requires
+part_of-requires c = record {
+  there = fits_there c.args.deck.now c.sessions-sessions.result.now c.loop-k.k c.sessions-sessions.ensures c.loop-k-test.true c.index-sessions-k.result c.index-sessions-k.is c.known.ensures;
+}
 
 pub loop-k-preserved : goal.loop-k-preserved
 loop-k-preserved c =

@@ -1,11 +1,9 @@
 use Rattle.std.proofs.Common.{◌≡◌, ◌∙◌, ◌++◌, ◌<◌, sym, ap, subst, length, arith}
 use Rattle.std.specs.Bool.{IsTrue}
 use Rattle.ch_report.specs.Sessions.{is_inside}
-use Rattle.ch_report.specs.declared.part.SessionPart.{SessionPart}
 use Rattle.ch_search.specs.Parts.{Each}
 use Rattle.ch_search.specs.Searched.{lines_of, session_part}
 use Rattle.ch_search.proofs.Sessions.{each_at, each_long, fits_there, lines_all, lines_more}
-use Rattle.ch_workload.specs.Tuned.{Tuned}
 use Rattle.ch_search.proofs.search.put_parts.Goals as goal
 
 pub put_part-requires-clause-there : goal.put_part-requires-clause-there
