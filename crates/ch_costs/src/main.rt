@@ -1,14 +1,14 @@
-//! Reads each case of a folder, in the order of their names: a deck of one program, a line `%%`,
-//! and lines with a machine and a recipe. Prints what the recipe's code costs on the machine, and
-//! whether it leaves the arrays that the program leaves.
+//! Reads each case of a folder, in the order of their names: a deck of one program and of recipes,
+//! a line `%%`, and lines with a machine and the name of a recipe. Prints what the recipe's code
+//! costs on the machine, and whether it leaves the arrays that the program leaves.
 //!
 //! The folder is the one that the program runs in, or the one that its first argument names; a
-//! second argument says how often the code of each line is run, which changes no cost, so that a
-//! run can be timed.
+//! second argument says how often the code of each line is run again, which changes no cost, so
+//! that a run can be timed.
 #![tactic(auto)]
 
-mod measure;
-mod recipe;
+mod cases;
+mod costs;
 
 use anyhow::{Context, Result};
 use std::{env, fs, io};
@@ -43,7 +43,7 @@ fn main(rt: HostRuntime) -> Result<()> {
             continue;
         };
         for line in lines.lines() {
-            let answer = measure::measured(alloc, deck, line, repeats)?;
+            let answer = cases::answer(alloc, deck, line, repeats).context(line)?;
             println!(rt; "{name}: {line}: {answer}")?;
         }
     }

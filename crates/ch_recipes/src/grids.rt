@@ -11,7 +11,8 @@ use std::alloc::{AllocError, Global};
 /// The most parameters of a grid.
 const MOST_PARAMS: usize = 6;
 
-/// A grid with three values for each parameter, of which these are the ones in the middle; None where a magnitude is too large.
+/// A grid with three values for each parameter, of which these are the ones in the middle; None
+/// where a magnitude is too large.
 pub(crate) fn grid_around(alloc: Global, values: &[i64]) -> Result<Option<Grid>, AllocError> {
     let mut params = List::new(alloc);
     for value in values {
