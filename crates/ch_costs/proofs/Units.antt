@@ -1,5 +1,5 @@
 -- The code of a program that keeps what a nest means, and the arrays that it runs on.
-use Rattle.std.proofs.Common.{◌≡◌, ◌∙◌, sym, ap, subst, ℕ, ℤ, ◌<◌, List, ◌++◌, length, map, arith}
+use Rattle.std.proofs.Common.{◌≡◌, sym, ap, subst, ℕ, ℤ, ◌<◌, List, ◌++◌, length, map, arith}
 use Rattle.std.specs.Bool.{IsTrue}
 use Rattle.std.proofs.lemmas.List.{length-map}
 use Rattle.ch_code.specs.Trace.{unit_trace}
