@@ -1,5 +1,5 @@
 -- When the indices of a list make it a point of a grid.
-use Rattle.std.proofs.Common.{◌≡◌, ap, arith, ℕ, zero, suc, ◌<◌, IsTrue, Bool, true, ◌&&◌, nat_lt, Option, Some, None, List, [], ◌∷◌, length, get_or}
+use Rattle.std.proofs.Common.{◌≡◌, arith, ℕ, suc, ◌<◌, IsTrue, Bool, ◌&&◌, nat_lt, Option, Some, None, List, [], ◌∷◌, length, get_or}
 use Rattle.std.specs.List.{slice_get}
 use Rattle.std.specs.Prelude.{IfSome}
 use Rattle.std.proofs.lemmas.Bool.Decides.{nat_tests}
