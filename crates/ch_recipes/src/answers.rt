@@ -10,9 +10,10 @@ ghost use Rattle.ch_variant.specs.Commands.{reorders};
 
 use crate::grids::{grid_around, is_in, middle};
 use crate::recipes::are_small;
-use crate::texts::{legal_text, refusal_text, used_text};
+use crate::texts::{guarded_text, legal_text, refusal_text, used_text};
 use ch_affine::Text;
-use ch_code::code_text;
+use ch_code::{code_text, guards};
+use ch_codegen::generate;
 use ch_grid::Grid;
 use ch_nest::Nest;
 use ch_script::Recipe;
@@ -62,15 +63,29 @@ fn refused(alloc: Global, nest: &Nest, error: ApplyError) -> Result<Text, ApplyE
     }
 }
 
-/// How the recipe is judged at these values, after it was applied so many times.
+/// Makes the recipe's code at these values once more for each repeat.
+fn make_again(alloc: Global, wanted: &Wanted<'_>, values: &[i64])
+    requires sound { IsTrue (is_sound wanted.now.nest.now) }
+    requires params { length values.now ≡ length wanted.now.recipe.now.params }
+    requires small { All (IsAtMost (2 ^ 20)) values.now }
+    requires reorders { IsTrue (list_all reorders wanted.now.recipe.now.commands) }
+{
+    if let Ok(space) = apply(alloc, wanted.nest, wanted.recipe, values) {
+        for _ in 1..wanted.repeats {
+            let _unit = generate(alloc, wanted.nest, &space);
+        }
+    }
+}
+
+/// How the recipe is judged at these values, after its code was made so many times.
 fn judged(alloc: Global, wanted: &Wanted<'_>, values: &[i64]) -> Result<Text, ApplyError>
     requires sound { IsTrue (is_sound wanted.now.nest.now) }
     requires params { length values.now ≡ length wanted.now.recipe.now.params }
     requires small { All (IsAtMost (2 ^ 20)) values.now }
     requires reorders { IsTrue (list_all reorders wanted.now.recipe.now.commands) }
 {
-    for _ in 1..wanted.repeats {
-        let _answer = apply(alloc, wanted.nest, wanted.recipe, values);
+    if wanted.repeats > 1 {
+        make_again(alloc, wanted, values);
     }
     match judge(alloc, wanted.nest, wanted.recipe, values) {
         Ok(judgement) => Ok(legal_text(alloc, judgement)?),
@@ -91,8 +106,8 @@ fn with_code(alloc: Global, text: &Text, variant: &Variant) -> Result<Text, Allo
     Ok(out)
 }
 
-/// What a variant says, where its recipe is judged so: that, with the code behind it where that is
-/// wanted.
+/// What a variant says, where its recipe is judged so: that, and how many guards its code has, with
+/// the code behind it where that is wanted.
 fn kept(
     alloc: Global,
     wanted: &Wanted<'_>,
@@ -103,10 +118,11 @@ fn kept(
     if !tells(variant, point) {
         return sentence(alloc, b"the variant is another one");
     }
+    let text = guarded_text(alloc, judgement, guards(variant.unit()))?;
     if wanted.shows_code {
-        return with_code(alloc, judgement, variant);
+        return with_code(alloc, &text, variant);
     }
-    judgement.copied(alloc)
+    Ok(text)
 }
 
 /// What is said of a refused build, where the recipe is judged so.

@@ -1,12 +1,12 @@
 //! Reads each case of a folder, in the order of their names: a deck of one program, a line `%%`,
 //! and recipes, one a line. Prints what each recipe makes of the program: its refusal, or how many
-//! pieces and instances there are. A recipe with parameters has their values behind it, as
-//! ` at 2,-1`. Behind the word `code` the code of the variant is printed too, and the line
-//! `original` prints the code of the program as it is.
+//! pieces and instances there are, and how many guards stand in the code. A recipe with parameters
+//! has their values behind it, as ` at 2,-1`. Behind the word `code` the code of the variant is
+//! printed too, and the line `original` prints the code of the program as it is.
 //!
 //! The folder is the one that the program runs in, or the one that its first argument names; a
-//! second argument says how often each recipe is applied, which changes no output, so that a run
-//! can be timed.
+//! second argument says how often each recipe's code is made, which changes no output, so that a
+//! run can be timed.
 #![tactic(auto)]
 
 mod answers;

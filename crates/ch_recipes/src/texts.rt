@@ -77,6 +77,18 @@ pub(crate) fn legal_text(alloc: Global, judgement: Judgement) -> Result<Text, Al
     Ok(out)
 }
 
+/// A judgement, and behind it the number of guards.
+pub(crate) fn guarded_text(
+    alloc: Global,
+    judgement: &Text,
+    guards: u32,
+) -> Result<Text, AllocError> {
+    let mut out = judgement.copied(alloc)?;
+    out.append(b" guards ")?;
+    put_number(&mut out, u64::from(guards))?;
+    Ok(out)
+}
+
 /// Numbers with commas between them.
 fn put_values(out: &mut Text, values: &[i64]) -> Result<(), AllocError> {
     for (k, value) in values.iter().enumerate() {
