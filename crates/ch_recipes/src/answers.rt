@@ -1,12 +1,11 @@
 //! What a recipe makes of a nest: as it is judged, and as a variant of it is built.
 
 ghost use Rattle.std.specs.Prelude.{◌≡◌, ◌^◌, length, IsTrue};
-ghost use Rattle.std.specs.List.{All, list_all};
+ghost use Rattle.std.specs.List.{All};
 ghost use Rattle.ch_affine.specs.Affine.{IsAtMost};
 ghost use Rattle.ch_grid.specs.Grid.{sizes};
 ghost use Rattle.ch_grid.specs.Points.{is_point};
 ghost use Rattle.ch_nest.specs.Sound.{is_sound};
-ghost use Rattle.ch_variant.specs.Commands.{reorders};
 
 use crate::grids::{grid_around, is_in, middle};
 use crate::recipes::are_small;
@@ -14,12 +13,11 @@ use crate::texts::{guarded_text, legal_text, refusal_text, used_text};
 use ch_affine::Text;
 use ch_code::{code_text, guards};
 use ch_codegen::generate;
+use ch_constrain::values_at;
 use ch_grid::Grid;
 use ch_nest::Nest;
 use ch_script::Recipe;
-use ch_variant::{
-    ApplyError, Variant, apply, build, judge, only_reorders, original, used_point, values_at,
-};
+use ch_variant::{ApplyError, Variant, apply, build, judge, original, used_point};
 use std::alloc::{AllocError, Global};
 
 /// A recipe to be applied to a nest at these values.
@@ -68,7 +66,6 @@ fn make_again(alloc: Global, wanted: &Wanted<'_>, values: &[i64])
     requires sound { IsTrue (is_sound wanted.now.nest.now) }
     requires params { length values.now ≡ length wanted.now.recipe.now.params }
     requires small { All (IsAtMost (2 ^ 20)) values.now }
-    requires reorders { IsTrue (list_all reorders wanted.now.recipe.now.commands) }
 {
     if let Ok(space) = apply(alloc, wanted.nest, wanted.recipe, values) {
         for _ in 1..wanted.repeats {
@@ -82,7 +79,6 @@ fn judged(alloc: Global, wanted: &Wanted<'_>, values: &[i64]) -> Result<Text, Ap
     requires sound { IsTrue (is_sound wanted.now.nest.now) }
     requires params { length values.now ≡ length wanted.now.recipe.now.params }
     requires small { All (IsAtMost (2 ^ 20)) values.now }
-    requires reorders { IsTrue (list_all reorders wanted.now.recipe.now.commands) }
 {
     if wanted.repeats > 1 {
         make_again(alloc, wanted, values);
@@ -151,7 +147,6 @@ fn built(
     requires sound { IsTrue (is_sound wanted.now.nest.now) }
     requires params { length grid.now.params ≡ length wanted.now.recipe.now.params }
     requires point { IsTrue (is_point (sizes grid.now.params) point.now) }
-    requires reorders { IsTrue (list_all reorders wanted.now.recipe.now.commands) }
 {
     match build(alloc, SUBJECT, wanted.nest, wanted.recipe, grid, point) {
         Ok(variant) => Ok(kept(alloc, wanted, &variant, point, judgement)?),
@@ -172,7 +167,6 @@ fn told_for(
     requires values { length values.now ≡ length wanted.now.recipe.now.params }
     requires small { All (IsAtMost (2 ^ 20)) values.now }
     requires point { IsTrue (is_point (sizes grid.now.params) point.now) }
-    requires reorders { IsTrue (list_all reorders wanted.now.recipe.now.commands) }
 {
     let judgement = judged(alloc, wanted, values)?;
     built(alloc, wanted, grid, point, &judgement)
@@ -193,7 +187,6 @@ fn told_elsewhere(
     requires small { All (IsAtMost (2 ^ 20)) wanted.now.values.now }
     requires point { IsTrue (is_point (sizes grid.now.params) point.now) }
     requires used { IsTrue (is_point (sizes grid.now.params) used.now) }
-    requires reorders { IsTrue (list_all reorders wanted.now.recipe.now.commands) }
 {
     let here = judged(alloc, wanted, wanted.values)?;
     let values = values_at(alloc, grid, used)?;
@@ -214,7 +207,6 @@ fn told_at(
     requires values { length wanted.now.values.now ≡ length wanted.now.recipe.now.params }
     requires small { All (IsAtMost (2 ^ 20)) wanted.now.values.now }
     requires point { IsTrue (is_point (sizes grid.now.params) point.now) }
-    requires reorders { IsTrue (list_all reorders wanted.now.recipe.now.commands) }
 {
     let used = used_point(alloc, wanted.recipe, grid, point)?;
     if used.as_slice() == point {
@@ -224,12 +216,11 @@ fn told_at(
     }
 }
 
-/// What is said of a recipe that only reorders, at fitting values.
+/// What is said of a recipe at fitting values.
 fn told(alloc: Global, wanted: &Wanted<'_>) -> Result<Text, ApplyError>
     requires sound { IsTrue (is_sound wanted.now.nest.now) }
     requires params { length wanted.now.values.now ≡ length wanted.now.recipe.now.params }
     requires small { All (IsAtMost (2 ^ 20)) wanted.now.values.now }
-    requires reorders { IsTrue (list_all reorders wanted.now.recipe.now.commands) }
 {
     let Some(grid) = grid_around(alloc, wanted.values)? else {
         return judged(alloc, wanted, wanted.values);
@@ -246,9 +237,6 @@ fn told(alloc: Global, wanted: &Wanted<'_>) -> Result<Text, ApplyError>
 pub(crate) fn answer_of(alloc: Global, wanted: &Wanted<'_>) -> Result<Text, ApplyError>
     requires { IsTrue (is_sound wanted.now.nest.now) }
 {
-    if !only_reorders(wanted.recipe) {
-        return Ok(sentence(alloc, b"not only reorders")?);
-    }
     let recipe = wanted.recipe;
     if wanted.values.len() != recipe.params.len() || !are_small(wanted.values) {
         return Ok(sentence(alloc, b"the values don't fit")?);
